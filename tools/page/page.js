@@ -1,16 +1,16 @@
 "use strict";
-// Draws the overview of a run, and the exchanges of one peer when it is chosen. All numbers are those of the run's data in the page.
+// Draws the overview of a run, and the exchanges of a peer when it is chosen. All numbers are from the run's data in the page.
 (() => {
 const run = JSON.parse(document.getElementById("run").textContent), session = run.session;
 const SLOTS = 8, STRIP = 58, FIELDS = 8;
-// up to how many updates of a round have a line each
+// a round with more updates than this has no line for each of them
 const MOST_LINES = 16;
-// a sign is as wide as the numbers of partners need, and three of them stand in a line
+// a sign is as wide as the numbers of partners need, and a line has three signs
 const TOKEN = session.peers > 99 ? 20 : 16, SEATS = session.peers > 99 ? [0.5, 22, 43] : [2, 21, 39];
 const element = id => document.getElementById(id);
 const counted = (count, word) => `${count.toLocaleString("en")} ${word}${count === 1 ? "" : "s"}`;
 const peers = run.peers.filter(peer => peer.rounds), byNumber = new Map(peers.map(peer => [peer.peer, peer]));
-// the places of a round's updates among all
+// the place of each round's first update among all updates, and the number of its updates
 const starts = new Map(), counts = new Map();
 run.releases.forEach(([number], at) => {
   if (!starts.has(number)) starts.set(number, at);
@@ -20,7 +20,7 @@ const escaped = text => String(text).replace(/[&<>"]/g, sign => ({"&": "&amp;", 
 
 // ---- what the data says
 
-// a round of a peer, where it ran through or in it
+// the data of a peer's round, or null if the peer had no tick in it
 function roundOf(peer, number) {
   const at = FIELDS * (number - 1), row = peer.rounds.slice(at, at + FIELDS);
   if (!row.length) return null;
@@ -28,7 +28,7 @@ function roundOf(peer, number) {
   return {due, played, came, started, answered, traded, lost, accuses};
 }
 
-// the sum over rounds from the first to the last
+// the sums over the rounds of a peer from the first to the last
 function sumOf(peer, first, last) {
   const sum = {due: 0, played: 0, came: 0, started: 0, answered: 0, traded: 0, lost: 0, accuses: 0, rounds: 0};
   for (let number = first; number <= last; number++) {
@@ -92,7 +92,7 @@ function nothingIn(peer, first, last) {
   return count;
 }
 
-// the class and the words of each update that is played in a round
+// the class and the description of each update that is due in a round
 function marksOf(peer, number) {
   const from = number - session.life, start = starts.get(from), marks = [];
   for (let at = start; at < start + (counts.get(from) || 0); at++) {
@@ -109,7 +109,7 @@ function marksOf(peer, number) {
 
 // ---- the overview
 
-// what a shade stands for, from none to the most that is told apart, with the steps of its scale
+// what a shade means, from nothing to the largest value that has a shade of its own, with the steps of its scale
 const measures = {
   played: {of: sum => sum.due ? 100 * sum.played / sum.due : null, steps: [0, 25, 50, 75, 100],
     unit: "% of what was due in a round; blank where nothing was"},
@@ -131,7 +131,7 @@ function drawScale() {
   element("scale").innerHTML = `${drawn.join("")}<span>${unit}</span>`;
 }
 
-// where the overview's columns and rows stand; a column has more rounds where there are too many
+// the places of the overview's columns and rows; if there are too many rounds, a column has several
 function placed() {
   const width = Math.max(280, element("grid").clientWidth || 800), left = 30, right = 48, top = 74;
   const each = Math.ceil(session.ends / Math.floor((width - left - right) / 4)), columns = Math.ceil(session.ends / each);
@@ -141,7 +141,7 @@ function placed() {
 
 const roundsAt = column => [place.each * column + 1, Math.min(session.ends, place.each * (column + 1))];
 
-// how many of the updates that are played in some rounds came in each way, over all peers that ran so far
+// how many of the updates that were due in some rounds were played, by the way in which they arrived, over all peers that ran then
 function sharesOf(first, last) {
   const shares = {b: 0, x: 0, p: 0, due: 0};
   for (const peer of peers) {
@@ -160,7 +160,7 @@ const rect = (class_, x, y, width, height, more = "") =>
   `<rect class="${class_}" x="${x.toFixed(1)}" y="${y.toFixed(1)}" width="${width.toFixed(1)}" height="${height.toFixed(1)}"${more}/>`;
 const text = (class_, x, y, said) => `<text class="${class_}" x="${x.toFixed(1)}" y="${y.toFixed(1)}">${said}</text>`;
 
-// a column of the chart above the overview: which part of what was due was played, by the ways in which it came
+// a column of the chart above the overview: the part of the due updates that was played, by the way in which they arrived
 function chartColumn(column) {
   const shares = sharesOf(...roundsAt(column)), height = 46, x = place.left + place.step * column, wide = Math.max(0.8, place.step - 0.8);
   if (!shares.due) return "";
@@ -212,7 +212,7 @@ function drawGrid() {
   if (pointed) moveTo(cursor.row, cursor.column, false);
 }
 
-// moves the cursor, which is there once somebody pointed, and tells of its cell
+// moves the cursor, which is visible once somebody pointed, and describes its cell if `tells`
 function moveTo(row, column, tells = true) {
   pointed = true;
   cursor = {row: Math.max(0, Math.min(peers.length - 1, row)), column: Math.max(0, Math.min(place.columns - 1, column))};
@@ -269,7 +269,7 @@ function token(side, x, y) {
     (side.given ? arrow(middle, y, true) : "") + (side.got ? arrow(middle, y + 21.5, false) : "") + "</g>";
 }
 
-// a line of signs: the exchange that the peer started stands first
+// a line of signs: the exchange that the peer started is first
 function tokens(sides, y) {
   const own = sides.filter(side => side.asks), others = sides.filter(side => !side.asks);
   const seat = at => SEATS[at] ?? SEATS[2] + (at - 2) * (TOKEN + 2);
@@ -299,13 +299,13 @@ function roundButton(peer, number) {
     `<svg width="64" height="102" aria-hidden="true">${veil}${heading}${drawn}${alarm}</svg></button>`;
 }
 
-// whether a peer did nothing in a round and nothing was due, and whether it had stopped then
+// whether a peer had stopped before a round, or did nothing in it and nothing was due
 function isEmpty(peer, number) {
   const row = roundOf(peer, number);
   return !row || !(row.due || row.accuses || peer.byRound.has(number));
 }
 
-// the rounds of a peer from the first to the last, those in a row that are empty together
+// the rounds of a peer from the first to the last, with empty ones in a row joined
 function stretches(peer) {
   const found = [];
   for (let number = 1; number <= session.ends; number++) {
@@ -329,21 +329,21 @@ function foldButton({first, last, stopped}) {
     `${text("round late", 15, 96, last)}</svg></button>`;
 }
 
-// puts the rounds of a fold in its place, and returns the button of one of them
+// replaces a fold by the buttons of its rounds, and returns one of these
 function unfold(fold, number) {
   const section = fold.closest("section"), peer = byNumber.get(Number(section.dataset.peer));
   fold.outerHTML = roundButtons(peer, Number(fold.dataset.round), Number(fold.dataset.last));
   return section.querySelector(`button[data-round="${number}"]`);
 }
 
-// the button of a round, which is unfolded where it has to be
+// the button of a round, which is unfolded if necessary
 function buttonOf(section, number) {
   const covers = fold => Number(fold.dataset.round) <= number && number <= Number(fold.dataset.last);
   const fold = [...section.querySelectorAll("button.fold")].find(covers);
   return fold ? unfold(fold, number) : section.querySelector(`button[data-round="${number}"]`);
 }
 
-// reads the sides of a peer's exchanges, when it is asked for first
+// reads the sides of a peer's exchanges at the first call
 function prepare(peer) {
   if (peer.byRound) return;
   peer.byRound = new Map();
@@ -364,7 +364,7 @@ function lane(peer) {
     '<div class="words" aria-live="polite" hidden></div></section>';
 }
 
-// shows one peer, or all where the session is small
+// shows one peer, or all peers
 function show(which) {
   const shown = which === "all" ? peers : peers.filter(peer => peer.peer === Number(which));
   element("peer").value = which;
@@ -374,7 +374,7 @@ function show(which) {
 
 const listed = (class_, lines) => `<ul class="${class_}">${lines.map(line => `<li>${escaped(line)}</li>`).join("")}</ul>`;
 
-// numbers that rise, in words: three or more in a row as a range
+// ascending numbers as text: three or more in a row are a range
 function toldNumbers(numbers) {
   const rows = [];
   for (const number of numbers) {
@@ -384,7 +384,7 @@ function toldNumbers(numbers) {
   return rows.flatMap(row => row.length > 2 ? [`${row[0]} to ${row.at(-1)}`] : row).join(", ");
 }
 
-// what became of the updates that are played in a round, in words: where they are many, those with one fate together
+// lines on what happened to the updates that are due in a round; if they are many, those with the same fate share a line
 function toldMarks(peer, number) {
   const lines = marksOf(peer, number).map(([, told]) => told), fates = new Map();
   if (lines.length <= MOST_LINES) return lines;
@@ -395,7 +395,7 @@ function toldMarks(peer, number) {
   return [...fates].map(([fate, numbers]) => `update${numbers.length > 1 ? "s" : ""} ${toldNumbers(numbers)} ${fate}`);
 }
 
-// tells of the round of a button in words, below its signs
+// describes the round of a button in words, below its signs
 function tell(chosen) {
   const section = chosen.closest("section"), number = Number(chosen.dataset.round), last = Number(chosen.dataset.last || number);
   const peer = byNumber.get(Number(section.dataset.peer)), sides = peer.byRound.get(number) || [], words = section.querySelector(".words");
@@ -408,7 +408,7 @@ function tell(chosen) {
     listed("short", roundOf(peer, number) ? toldMarks(peer, number) : []);
 }
 
-// the button in the line above or below another that is next to it
+// the button that is nearest to another one, in the line above or below it
 function beside(all, button, down) {
   const others = all.filter(it => (it.offsetTop - button.offsetTop) * down > 0);
   const line = Math[down > 0 ? "min" : "max"](...others.map(it => it.offsetTop)), far = it => Math.abs(it.offsetLeft - button.offsetLeft);
@@ -425,7 +425,7 @@ function takeLaneKey(event) {
   event.preventDefault();
 }
 
-// shows a peer's exchanges, and goes to a round of it
+// shows a peer's exchanges and describes a round of it; if `goes`, moves the focus there
 function open(which, number, goes) {
   show(String(which));
   const section = element("lanes").querySelector(`section[data-peer="${which}"]`);
@@ -457,11 +457,11 @@ function follow() {
 
 // ---- tables that sort
 
-// what a cell is sorted by; a dash is below all numbers
+// the value by which a cell is sorted; a dash is less than all numbers
 const worth = cell => parseFloat(cell.textContent.replace(/,/g, "")) || (cell.textContent === "–" ? -1 : 0);
 
-// sorts a table by the column of a name: the least first where it is the first column, else the most first, and the other way at each
-// further click
+// sorts a table by the column of a header: in ascending order if it is the first column, else in descending order; each further click
+// reverses the order
 function sortBy(table, header) {
   const names = [...header.parentElement.children], at = names.indexOf(header), was = header.getAttribute("aria-sort");
   const rises = was ? was === "descending" : at === 0;

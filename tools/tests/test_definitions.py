@@ -126,7 +126,7 @@ class Page(MadeDefinitions):
     def setUp(self):
         super().setUp()
         parts = {"Pairs": ["small/*"], "Headline": ["bar_cli/*"]}
-        for name, value in {"PARTS": parts, "CODE": {}, "PARTS_RECORD": "Keeps", "LAWS": ("small",)}.items():
+        for name, value in {"PARTS": parts, "PARTS_RECORD": "Keeps", "LAWS": ("small",)}.items():
             self.enterContext(unittest.mock.patch.object(trust, name, value))
         self.trust = trust.Trust.of(self.root)
 
@@ -156,10 +156,9 @@ class Page(MadeDefinitions):
 
     def test_a_file_about_code_that_the_headline_reaches_has_a_fault(self):
         self.write_page()
-        with unittest.mock.patch.object(trust, "CODE", {"small": ("Pairs Gone", "pairs")}):
+        with unittest.mock.patch.object(trust, "CODE", "Pairs"):
             faults = [fault for _, fault in trust.faults_of_page(self.root)]
         self.assertIn("the headline reaches `sum`", "\n".join(faults))
-        self.assertIn("has no Gone.antt", "\n".join(faults))
 
     def test_a_page_without_its_marks_is_refused(self):
         page = self.write_page()
@@ -182,7 +181,7 @@ class Repository(unittest.TestCase):
 
     def test_each_name_that_a_file_takes_is_used_by_one_of_its_definitions(self):
         # a name is missed by the reading if the file takes it and no definition uses it; these are handed on, or taken for nothing
-        excused = {"bar_arguments.specs.Options", "bar_cli.specs.Refusals", "bar_party_commands.specs.Stands"}
+        excused = {"bar_arguments.specs.Options", "bar_cli.specs.Refusals"}
         for module, file in self.definitions.files.items():
             used = set().union(*(self.definitions.named_in(file, each) for each in file.own.values()))
             unused = set(file.taken.values()) - used

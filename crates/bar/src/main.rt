@@ -17,13 +17,13 @@ use std::io;
 use std::io::ErrorKind;
 use std::process::ExitCode;
 
-/// The exit status where a file fails.
+/// The exit status if a file fails.
 const FILE_FAILED: u8 = 3;
 
-/// The exit status where memory is wanting.
+/// The exit status if memory runs out.
 const NO_MEMORY: u8 = 70;
 
-// Does what the words say, and answers the exit status.
+// Runs the command that the arguments name, and returns the exit status.
 fn run_words<F: Files, L: Link, K: Sink, S: Spawner>(
     alloc: Global,
     words: io::Result<Vec<String>>,
@@ -33,21 +33,21 @@ fn run_words<F: Files, L: Link, K: Sink, S: Spawner>(
     err: &mut K,
     spawn: &mut S,
 ) -> u8
-    // what was done of what the words ask for
+    // what was done of what the arguments ask for
     ensures done { (was : Content) → IfOk words (λ given. WasDone (line_of (map string_bytes given.items))
         (outside (F.disk files.old was) (K.stream out.old) (L.wire link.old))
         (outside (F.disk files.new was) (K.stream out.new) (L.wire link.new)) (S.children spawn.old) (S.children spawn.new) result) }
 
-    // what stands by the rules over these inputs
+    // what holds by the rules over the inputs of this run
     ensures ruled { (was : Content) → IfOk words (λ given. ByTheRules (line_of (map string_bytes given.items))
         (outside (F.disk files.old was) (K.stream out.old) (L.wire link.old))
         (outside (F.disk files.new was) (K.stream out.new) (L.wire link.new)) result) }
 
-    // what standard error has of it
+    // what was written to standard error
     ensures said { (was : Content) → IfOk words (λ given. WasSaid (line_of (map string_bytes given.items)) (F.disk files.old was)
         (F.disk files.new was) (K.stream err.old) (K.stream err.new) result) }
 
-    // words that aren't text are no line
+    // arguments that aren't text are not a valid command line
     ensures no_text { IfErr words (λ _. (result ≡ 2) ⊎ (result ≡ 70)) }
     ensures untouched { (was : Content) → IfErr words (λ _. NothingHappened
         (outside (F.disk files.old was) (K.stream out.old) (L.wire link.old))
@@ -60,7 +60,7 @@ fn run_words<F: Files, L: Link, K: Sink, S: Spawner>(
                 let _ = err.write(b"bar: no memory\n");
                 return NO_MEMORY;
             }
-            // Words that aren't text are no line, just as no words are.
+            // Arguments that aren't text are not a valid command line. An empty list isn't one either.
             Vec::new(alloc)
         }
     };

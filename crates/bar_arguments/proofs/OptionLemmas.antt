@@ -1,4 +1,4 @@
--- What `clap` makes of a command's options.
+-- How `clap` builds a command's options.
 use Rattle.std.proofs.Common.{◌+◌, ◌<◌, suc, take, get_or, arith, is_some, ◌≡◌, ◌∙◌, ◌&&◌, ap, ap₂, refl, sym, ℕ, true, false, not, List, [], ◌∷◌, ◌++◌, map, length}
 use Rattle.std.specs.List.{list_all, list_any}
 use Rattle.std.proofs.lemmas.List.{map-append}
@@ -10,13 +10,13 @@ use Rattle.clap.specs.Simple.{built, filled, filled_from, is_simple, with_rule}
 use Rattle.clap.specs.Faults.{is_simple_and_free}
 use Rattle.bar_arguments.specs.Options.{option_rule, options_of}
 
--- one option more
+-- one more option
 pub options-more : (names : List Text) (name : Text) → with_rule (options_of names) (option_rule name) ≡ options_of (names ++ name ∷ [])
 unfolding options_of
 options-more names name =
     ap (λ rules. record (options_of names) { top = record (options_of names).top { rules = rules } }) (sym (map-append option_rule names (name ∷ [])))
 
--- as it is built
+-- the rule after it was built
 abbrev pub built_rule : Text → Rule
 built_rule name = filled (option_rule name)
 
@@ -58,7 +58,7 @@ unfolding options_of
 options-simple_and_free names =
     ap₂ ◌&&◌ (options-simple names) (ap₂ ◌&&◌ (ap (list_all (λ (r : Rule). r.is_free)) (built-rules 1 names) ∙ all_built_free names) refl)
 
--- one option more, at an index
+-- one more option, at an index
 pub option-at : (names : List (Bor Text)) (i : ℕ) (d : Bor Text) → i < length names
     → with_rule (options_of (map (λ name. name.now) (take i names))) (option_rule (get_or names i d).now) ≡ options_of (map (λ name. name.now) (take (i + 1) names))
 option-at names i d lt =

@@ -1,4 +1,4 @@
--- Words that are taken give each option its value.
+-- Arguments that are accepted give each option a value.
 use Rattle.std.proofs.Common.{option_and_then, option_map, inl, inr, ◌≡◌, ◌∙◌, ◌&&◌, ap, refl, sym, subst, arith, ℕ, zero, suc, Bool, true, false, cond, not, List, [], ◌∷◌, ◌++◌, map, length, Option, Some, None, is_some, true≢false}
 use Rattle.std.specs.Prelude.{find, slice_get, fold, drop, encode_utf8}
 use Rattle.std.specs.List.{list_all, list_any}
@@ -69,7 +69,7 @@ none-found : (p : Rule → Bool) (names : List Text) → ((name : Text) → p (b
 none-found p [] none = refl
 none-found p (name ∷ names) none = rw (none name) (none-found p names none)
 
--- a use that has no fault leaves a value in its row
+-- a use without a fault leaves a value in its row
 used-valued : (name : Text) (again : Bool) (values : List Text) (rows : List Row) → use_fault again (built_rule name) values rows ≡ [] → Valued rows
     → Valued (used (built_rule name) values rows)
 used-valued name again [] rows fault h = absurd cc
@@ -87,7 +87,7 @@ module _ (names : List Text) (again : Bool) where
       let own = option-found p names a (found ∙ is) in
       subst (λ (x : Rule). Valued (used x values rows)) (sym own.1) (used-valued own.0 again values rows (subst (λ (x : Rule). use_fault again x values rows ≡ []) own.1 fault) h)
 
-  -- what was pending has its value
+  -- a pending option gets its value
   settle-valued : (pending : Option (Text × List Text)) (rows : List Row) (skip : ℕ) → settle_fault (map built_rule names) again (record { rows = rows; pending = pending; skip = skip }) ≡ []
       → Valued rows → Valued (settled_rows (map built_rule names) pending rows)
   settle-valued None rows skip fault h = h
@@ -98,7 +98,7 @@ module _ (names : List Text) (again : Bool) where
       go None found fault = h
       go (Some a) found fault = use-valued (λ (a : Rule). bytes_eq a.id p.0) (Some a) p.1 rows a found refl fault h
 
-  -- a word that is no flag changes no row
+  -- an argument that isn't a flag changes no row
   plain-rows : (waiting : Waiting) (word : Text) (h : Held) → (plain_word c waiting word h).0.rows ≡ h.rows
   plain-rows idle word h = refl
   plain-rows (option id) word h = go (arg_by_id c id)
@@ -150,7 +150,7 @@ module _ (names : List Text) (again : Bool) where
           let fault_is : option_fault c again a v h ≡ [] = rw takes at fault in
           rw takes (option-valued _ a v h found fault_is valued)
 
-  -- a word before `--`
+  -- an argument before `--`
   word-valued : (waiting : Waiting) (word : Text) (h : Held) → flag_word_fault c again (long_of word) word h ≡ [] → Valued h.rows
       → Valued (long_or_other c waiting word (long_of word) h).0.rows
   word-valued waiting word h fault valued = go (long_of word) fault
@@ -229,7 +229,7 @@ some-first : (values : List Text) → not (is_empty values) ≡ true → is_some
 some-first [] h = absurd cc
 some-first (v ∷ values) h = refl
 
--- what is given has a value
+-- an option that is given has a value
 given-value : (name : Text) (rows : List Row) → Valued rows → is_given name rows ≡ true → is_some (first_of name rows) ≡ true
 given-value name [] valued given = absurd (true≢false (sym given))
 given-value name (r ∷ rows) valued given =
@@ -271,7 +271,7 @@ module _ (names : List Text) (s : Shape) (words : List Text) where
       let wanted = no-kinds _ _ _ checked in
       all-given (finished (map built_rule names) end) names finished_valued (rw plain_reqs at wanted)
 
--- words that are taken give each option its value
+-- accepted arguments give each option a value
 pub taken-values : (names words : List Text) → is_taken names words ≡ true → list_all (λ name. is_some (value_of names words name)) names ≡ true
 unfolding is_taken value_of options_of
 taken-values names words taken =
@@ -282,7 +282,7 @@ taken-values names words taken =
     let values = level-valued names top words refl (subst (λ (x : Shape). level_fault x [] nothing_held words false [] ≡ []) whole fault) in
     subst (λ rules. list_all (λ name. is_some (first_of name (finished rules (walk rules [] nothing_held words).held))) names ≡ true) (sym (options-built names)) values
 
--- where each has a value, there are all of them
+-- if each option has a value, there is a list of all values
 all-some : (f : Text → Option Text) (names : List Text) → list_all (λ name. is_some (f name)) names ≡ true → is_some (values_by f names) ≡ true
 all-some f [] h = refl
 all-some f (name ∷ names) h =
@@ -295,7 +295,7 @@ all-some f (name ∷ names) h =
     joined (Some text) None one more = more
     joined (Some text) (Some others) one more = refl
 
--- words have values exactly where they are taken
+-- arguments have values if and only if they are accepted
 pub values-taken : (names words : List Text) → is_some (values_of names words) ≡ is_taken names words
 values-taken names words = elim (cases_Bool (is_taken names words)) [
   | inl taken ↦ rw taken (all-some (value_of names words) names (taken-values names words taken))

@@ -11,14 +11,14 @@ use Rattle.clap.specs.declared.parser.matches.Found.{Found}
 use Rattle.clap.proofs.WalkLemmas.{first_value-rows}
 use Rattle.bar_arguments.specs.Options.{is_taken, options_of, texts, value_of, values_by, values_of}
 
--- each of several values, of which one is the first
+-- if several values exist, the first one and the others exist
 split : (o : Option Text) (r : Option (List Text)) (values : List Text) → option_and_then (λ own. option_map (λ others. own ∷ others) r) o ≡ Some values
     → (own : Text) × (others : List Text) × (o ≡ Some own) × (r ≡ Some others) × (values ≡ own ∷ others)
 split None r values h = absurd cc
 split (Some own) None values h = absurd cc
 split (Some own) (Some others) values h = (own, others, refl, refl, cc)
 
--- one value more
+-- one more value
 more : (f : Text → Option Text) (names : List Text) (name own : Text) (values : List Text) → values_by f names ≡ Some values → f name ≡ Some own
     → values_by f (names ++ name ∷ []) ≡ Some (values ++ own ∷ [])
 more f [] name own values all one = let none : values ≡ [] = cc in rw (one, none) refl
@@ -47,13 +47,13 @@ none-at f [] i d lt none = absurd (omega arith)
 none-at f (name ∷ names) zero d lt none = rw none refl
 none-at f (name ∷ names) (suc i) d lt none = rw (none-at f names i d (omega arith) none) (no-others (f name.now))
 
--- the same values by two ways to find them
+-- two ways to find values agree
 pub values_by-same : (f g : Text → Option Text) → ((name : Text) → f name ≡ g name) → (names : List Text) → values_by f names ≡ values_by g names
 values_by-same f g same [] = refl
 values_by-same f g same (name ∷ names) =
     ap₂ (λ own others. option_and_then (λ (v : Text). option_map (λ (vs : List Text). v ∷ vs) others) own) (same name) (values_by-same f g same names)
 
--- the values that were found are those of the words
+-- the values that were found are those of the arguments
 pub values-found : (found : Found) (names words : List Text) → rows_of found ≡ matches_of (options_of names) words → is_taken names words ≡ true
     → values_by (first_value found) names ≡ values_of names words
 unfolding value_of

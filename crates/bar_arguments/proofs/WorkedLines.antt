@@ -1,4 +1,4 @@
--- What `clap` takes, computed at words that are written out.
+-- What `clap` accepts, computed for literal arguments.
 use Rattle.std.proofs.Common.{◌≡◌, refl, [], ◌∷◌, codes}
 use Rattle.std.specs.Prelude.{Some, None}
 use Rattle.clap.proofs.OnLiterals.{clap_on_literals}
@@ -15,12 +15,12 @@ pub empty-line : values_of names (codes "--found" ∷ [] ∷ codes "--key=" ∷ 
 unfolding clap_on_literals is_taken value_of options_of names
 empty-line = refl
 
--- a lone dash is a value
+-- a single dash is a value
 pub dash-line : values_of names (codes "--found" ∷ codes "-" ∷ codes "--key=k" ∷ []) ≡ Some (codes "k" ∷ codes "-" ∷ [])
 unfolding clap_on_literals is_taken value_of options_of names
 dash-line = refl
 
--- another word that begins with a dash is none, but behind an equals sign
+-- any other argument that begins with a dash isn't a value, except after an equals sign
 pub dashed-line : values_of names (codes "--found" ∷ codes "-f" ∷ codes "--key=k" ∷ []) ≡ None
 unfolding clap_on_literals is_taken value_of options_of names
 dashed-line = refl
@@ -33,7 +33,7 @@ pub equals-line : values_of names (codes "--found=--key" ∷ codes "--key=a=b" �
 unfolding clap_on_literals is_taken value_of options_of names
 equals-line = refl
 
--- twice, missing, a stray word, help, a name cut short
+-- an option that occurs twice, a missing option, a stray argument, help, an abbreviated name
 pub twice-line : values_of names (codes "--found=f" ∷ codes "--key=k" ∷ codes "--key=k" ∷ []) ≡ None
 unfolding clap_on_literals is_taken value_of options_of names
 twice-line = refl
@@ -54,7 +54,7 @@ pub short-line : values_of names (codes "--found=f" ∷ codes "--ke=k" ∷ []) �
 unfolding clap_on_literals is_taken value_of options_of names
 short-line = refl
 
--- a `--` at the end takes nothing away
+-- a final `--` changes nothing
 pub end-line : values_of names (codes "--found=f" ∷ codes "--key=k" ∷ codes "--" ∷ []) ≡ Some (codes "k" ∷ codes "f" ∷ [])
 unfolding clap_on_literals is_taken value_of options_of names
 end-line = refl

@@ -1,4 +1,4 @@
-//! The words of a command line, read by `clap`.
+//! The arguments of a command line, parsed by `clap`.
 #![tactic(auto)]
 
 mod laws;

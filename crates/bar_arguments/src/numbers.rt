@@ -1,4 +1,4 @@
-//! Numbers and ids, as words.
+//! Parsing of numbers and ids.
 ghost use Rattle.std.specs.Prelude.{◌≡◌, ◌≤◌, IfSome};
 ghost use Rattle.std.specs.Char.{is_ascii_digit};
 ghost use Rattle.std.specs.List.{list_all};
@@ -6,14 +6,14 @@ ghost use Rattle.bar_arguments.specs.Numbers.{id_of, is_numeral, number_in};
 
 use hex::FromHex;
 
-/// Whether bytes are ASCII digits alone.
+/// Whether all bytes are ASCII digits.
 fn are_digits(bytes: &[u8]) -> bool
     ensures { result ≡ list_all is_ascii_digit bytes.now }
 {
     bytes.iter().all(|byte| byte.is_ascii_digit())
 }
 
-/// Whether bytes write a number: digits alone, and at least one.
+/// Whether the bytes are a decimal number: only digits, and at least one.
 fn is_numeral(bytes: &[u8]) -> bool
     ensures { result ≡ is_numeral bytes.now }
 {
@@ -23,7 +23,7 @@ fn is_numeral(bytes: &[u8]) -> bool
     }
 }
 
-/// The number that a word writes, where it is in the range.
+/// The number that an argument represents, if it is in the range.
 pub fn number_in(word: &str, low: u64, high: u64) -> Option<u64>
     ensures value { result ≡ number_in low high word.now }
     ensures within { IfSome result (λ n. (low ≤ n) × (n ≤ high)) }
@@ -37,7 +37,7 @@ pub fn number_in(word: &str, low: u64, high: u64) -> Option<u64>
     }
 }
 
-/// The eight bytes of sixteen hex digits.
+/// The eight bytes that sixteen hex digits encode.
 pub fn id_of(word: &str) -> Option<[u8; 8]>
     ensures { result ≡ id_of word.now }
 {

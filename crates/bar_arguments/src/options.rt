@@ -7,10 +7,10 @@ use clap::error::ErrorKind;
 use clap::{Arg, ArgAction, ArgMatches, Command};
 use std::alloc::{AllocError, Global};
 
-/// Why words give no values.
+/// Why arguments give no values.
 #[derive(Clone, Copy, Debug, PartialEq, Eq)]
 pub enum WordsFault {
-    /// They aren't these options, each once with its value.
+    /// They aren't exactly these options, each once with its value.
     Usage,
     NoMemory,
 }
@@ -43,7 +43,7 @@ fn command_with<'a>(alloc: Global, names: &[&'a str]) -> Result<Command<'a>, All
     Ok(command)
 }
 
-/// What words give these options, where they are theirs.
+/// The matches for these options, if the arguments are valid for them.
 fn taken<'a>(
     alloc: Global,
     names: &[&'a str],
@@ -61,7 +61,7 @@ fn taken<'a>(
     }
 }
 
-/// The values of these options, where each has one.
+/// The values of these options, if each has one.
 fn values_in<'a>(
     alloc: Global,
     found: &ArgMatches<'a>,
@@ -81,8 +81,8 @@ fn values_in<'a>(
     Ok(values)
 }
 
-/// The values of these options in the order of the names, where the words are these options, each once and in any order, as `--name value`
-/// or `--name=value`. Other words are refused as `Usage`.
+/// The values of these options in the order of the names, if the arguments are exactly these options. Each occurs once, in any order, as
+/// `--name value` or `--name=value`. Other arguments are refused as `Usage`.
 pub fn option_values<'a>(
     alloc: Global,
     names: &[&'a str],

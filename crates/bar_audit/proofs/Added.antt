@@ -1,4 +1,4 @@
--- What an auditor knows once it is given one recording more.
+-- What an auditor knows after one more recording is added.
 use Rattle.std.proofs.Common.{◌≡◌, ℕ, Bool, true, false, List, [], ◌∷◌, ◌++◌, refl, sym, ap, ◌∙◌, subst, ◌&&◌, ◌||◌, cond, eqb}
 use Rattle.std.specs.Prelude.{Option, Some, None, Result, Err, is_some, option_map, option_and_then, filter, Contains, IsTrue, ◌↔◌}
 use Rattle.std.specs.Option.{option_map_or, option_or}
@@ -22,11 +22,11 @@ use Rattle.bar_audit.specs.declared.fault.AuditFault.{AuditFault}
 use Rattle.bar_audit.specs.declared.fault.AuditFault.TheVariants.{Twice}
 use Rattle.bar_audit.specs.Audits.{Audits}
 use Rattle.bar_audit.specs.Exchanges.{AreRecorded, is_found, is_recorded}
-use Rattle.bar_audit.specs.Findings.{case_at, has_side, has_exchange, has_number, are_given, is_kept, AreKeptWindows, KeepsExchanges}
-use Rattle.bar_audit.specs.Found.{Promised, promised_by, case_in, has_key_in, case_from, has_key_from}
-use Rattle.bar_audit.specs.Given.{GivesCases, GivesKeys}
+use Rattle.bar_audit.specs.Code.Findings.{case_at, has_side, has_exchange, has_number, are_given, is_kept, AreKeptWindows, KeepsExchanges}
+use Rattle.bar_audit.specs.Code.Found.{Promised, promised_by, case_in, has_key_in, case_from, has_key_from}
+use Rattle.bar_audit.specs.Code.Given.{GivesCases, GivesKeys}
 use Rattle.bar_audit.specs.Recordings.{Recording, inputs_of, is_given}
-use Rattle.bar_audit.specs.Sides.{side_at}
+use Rattle.bar_audit.specs.Code.Sides.{side_at}
 use Rattle.bar_audit.proofs.Lists.{contains-filter, filter-contains, contains-any}
 
 -- ---- whose recordings are given
@@ -184,11 +184,11 @@ audits-more s recordings a b party inputs at fresh added gives-cases gives-keys 
 
 -- ---- what is answered
 
--- the order of numbers tells them apart
+-- two numbers are equal if and only if they compare as equal
 pub nat-tells : DecidesEquality nat_cmp eqb
 nat-tells a b = grind (arith, nat_tests)
 
--- a party that wasn't given yet isn't there twice
+-- a party that wasn't given before isn't given twice
 pub not-twice : (s : Session) (recordings : List Recording) (a : Audit) (party : ℕ) (r : Result Audit AuditFault) → Audits s recordings a
     → has_number a.parties.keys party ≡ false → (r ≡ Err Twice → ⊥) → (r ≡ Err Twice) ↔ IsTrue (is_given recordings party)
 not-twice s recordings a party r at fresh other =

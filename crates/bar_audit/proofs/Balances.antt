@@ -8,18 +8,18 @@ use Rattle.bar_window.specs.declared.exchange.Exchange.{Exchange}
 use Rattle.bar_window.specs.declared.exchange.Role.{Role}
 use Rattle.bar_window.specs.Exchange.{other_role}
 use Rattle.bar_window.specs.Terms.{plain_terms}
-use Rattle.bar_wire.specs.Views.{AreTermWindows}
+use Rattle.bar_wire.specs.Code.Views.{AreTermWindows}
 use Rattle.bar_rules.specs.Member.{Session}
 use Rattle.bar_rules.specs.Peer.Admission.{same_terms}
 use Rattle.bar_audit.specs.declared.findings.Findings.{Findings}
 use Rattle.bar_audit.specs.declared.kept.KeptCase.{KeptCase}
 use Rattle.bar_audit.specs.declared.side.Side.{Side}
-use Rattle.bar_audit.specs.Balance.{has_those, is_paid_by}
-use Rattle.bar_audit.specs.Findings.{plain_case, has_side, AreKeptWindows}
-use Rattle.bar_audit.specs.Found.{Promised}
-use Rattle.bar_audit.specs.Sides.{is_side, side_at}
+use Rattle.bar_audit.specs.Code.Balance.{has_those, is_paid_by}
+use Rattle.bar_audit.specs.Code.Findings.{plain_case, has_side, AreKeptWindows}
+use Rattle.bar_audit.specs.Code.Found.{Promised}
+use Rattle.bar_audit.specs.Code.Sides.{is_side, side_at}
 
--- what a look-up gave
+-- what a look-up returned
 pub looked-up : (r : Option (Bor KeptCase)) (o : Option KeptCase) (k : Bor KeptCase) → option_copied r ≡ o → r ≡ Some k → o ≡ Some k.now
 looked-up r o k is e = sym is ∙ ap option_copied e
 

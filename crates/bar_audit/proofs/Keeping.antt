@@ -1,4 +1,4 @@
--- What stays known of the exchanges of which something is kept, once one side more is kept.
+-- The exchanges of which something is kept, after one more side is kept.
 use Rattle.std.proofs.Common.{◌≡◌, Bool, true, false, List, refl, sym, ap, ◌∙◌, cond, ◌||◌, ◌&&◌}
 use Rattle.std.specs.Prelude.{Option, Some, option_map, is_some}
 use Rattle.std.specs.Map.{lookup}
@@ -8,10 +8,10 @@ use Rattle.bar_window.specs.declared.exchange.Role.TheVariants.{Initiator, Respo
 use Rattle.bar_window.specs.Exchange.{same_exchange, same_role}
 use Rattle.bar_audit.specs.declared.kept.KeptCase.{KeptCase}
 use Rattle.bar_audit.specs.declared.side.Side.{Side}
-use Rattle.bar_audit.specs.Findings.{plain_case, case_at}
-use Rattle.bar_audit.specs.Sides.{is_side, side_at}
+use Rattle.bar_audit.specs.Code.Findings.{plain_case, case_at}
+use Rattle.bar_audit.specs.Code.Sides.{is_side, side_at}
 
--- the exchange of the side comes to the others
+-- the exchange of the side is added to the others
 pub with-side : (side : Side) (has has' : Exchange → Bool) (kept kept' : Exchange → Role → Bool) (x : Exchange)
     → has' x ≡ (same_exchange side.x x || has x) → ((role : Role) → kept' x role ≡ (is_side side (side_at x role) || kept x role))
     → has x ≡ (kept x Initiator || kept x Responder) → has' x ≡ (kept' x Initiator || kept' x Responder)

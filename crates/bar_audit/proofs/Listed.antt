@@ -1,4 +1,4 @@
--- The recorded exchanges as one list: one more is put into a rising list, and rising lists with the same members are one.
+-- The recorded exchanges as one list: inserting into a rising list, and rising lists with the same members are equal.
 use Rattle.std.proofs.Common.{◌≡◌, ◌⊎◌, ◌↔◌, ℕ, Bool, true, false, List, [], ◌∷◌, ◌++◌, refl, sym, ap, ◌∙◌, subst, cond, inl, inr, arith}
 use Rattle.std.specs.Prelude.{◌==◌, Option, Some, None, option_map, option_and_then, is_some, find, filter, Contains}
 use Rattle.std.specs.List.{AllByRecursion}
@@ -18,14 +18,14 @@ use Rattle.bar_rules.specs.Peer.Exchanges.{inserted, precedes, IsRising}
 use Rattle.bar_rules.proofs.Inserted.{precedes-not_same, precedes-chain}
 use Rattle.bar_rules.proofs.Rising.{inserted-rising}
 use Rattle.bar_audit.specs.Exchanges.{AreRecorded, is_found, is_recorded}
-use Rattle.bar_audit.specs.Found.{is_case, is_key, case_in, has_key_in}
+use Rattle.bar_audit.specs.Code.Found.{is_case, is_key, case_in, has_key_in}
 use Rattle.bar_audit.specs.Listed.{exchanges_in, exchanges_named, in_order, recorded}
 use Rattle.bar_audit.specs.Recordings.{Recording, datagrams_in, inputs_of}
 use Rattle.bar_window.proofs.Ranges.{Contains-later}
 use Rattle.bar_window.proofs.Exchanges.{same_exchange-is, same_exchange_refl}
 use Rattle.bar_audit.proofs.Lists.{any-found, contains-cases, contains-filter, contains-here, filter-contains, find-found, mapped}
 
--- ---- one more is put into a rising list
+-- ---- inserting into a rising list
 
 in_order-rising : (xs : List Exchange) → IsRising (in_order xs)
 in_order-rising [] = tt
@@ -82,7 +82,7 @@ in_order-only z (x ∷ xs) c =
       | inr more ↦ Contains-later x z xs (in_order-only z xs more)
     ]
 
--- ---- rising lists with the same members are one
+-- ---- rising lists with the same members are equal
 
 precedes-all : (x z : Exchange) (xs : List Exchange) → AllByRecursion (λ y. precedes x y ≡ true) xs → Contains xs z → precedes x z ≡ true
 precedes-all x z [] h c = absurd (omega (arith, c.1))
@@ -116,7 +116,7 @@ one-list (x ∷ xs) (y ∷ ys) h k e =
     in
     λ i. same i ∷ rest i
 
--- ---- a recorded exchange is one of a datagram's
+-- ---- a recorded exchange is that of a datagram
 
 exchange-is : (kind : Kind) (x : Exchange) (role : Role) (m : Message) → is_of kind x role m ≡ true → exchange_of m ≡ Some x
 exchange-is kind x role m e = go (place_of m) (and_parts _ _ e).1

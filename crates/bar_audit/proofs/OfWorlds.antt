@@ -20,7 +20,7 @@ use Rattle.bar_audit.specs.Recordings.{datagrams_in, inputs_of}
 use Rattle.bar_audit.specs.Worlds.{IsTrustedPeer, WorldsAreOfRuns, recordings_of}
 use Rattle.bar_audit.proofs.Lists.{contains-cases, contains-here}
 
--- a datagram that inputs spell is spelled by the bytes of one of them
+-- a datagram that inputs encode is encoded by the bytes of one of them
 spelled-there : (s : Session) (inputs : List Input) (d : Datagram) → Contains (datagrams_in s inputs) d → IsSpelledIn s inputs d
 spelled-there s [] d c = absurd (omega (arith, c.1))
 spelled-there s (event.Tick ∷ inputs) d c =

@@ -1,4 +1,4 @@
--- What a recording adds, input by input.
+-- What a recording adds, one input after another.
 use Rattle.std.proofs.Common.{◌≡◌, ℕ, ◌+◌, ◌*◌, ◌≤◌, Bool, true, false, List, [], ◌∷◌, refl, sym, ap, ◌∙◌, subst, cond, suc, ◌||◌, eqb, arith}
 use Rattle.std.specs.Prelude.{Option, Some, None, option_map, option_and_then, find, filter, length, if◌then◌else◌}
 use Rattle.std.specs.List.{list_any, cons_option}
@@ -13,12 +13,12 @@ use Rattle.bar_rules.specs.Member.{Session}
 use Rattle.bar_rules.specs.Values.{datagram_of}
 use Rattle.bar_audit.specs.declared.findings.Findings.{Findings}
 use Rattle.bar_audit.specs.declared.side.Side.{Side}
-use Rattle.bar_audit.specs.Findings.{case_at, has_side, AreKeptWindows, KeepsExchanges}
-use Rattle.bar_audit.specs.Found.{Promised, promised_by, can_be_opened, is_case, is_key, case_in, has_key_in}
-use Rattle.bar_audit.specs.Given.{case_with, key_with, GivesCase, GivesKey, GivesCases, GivesKeys, is_told, told}
+use Rattle.bar_audit.specs.Code.Findings.{case_at, has_side, AreKeptWindows, KeepsExchanges}
+use Rattle.bar_audit.specs.Code.Found.{Promised, promised_by, can_be_opened, is_case, is_key, case_in, has_key_in}
+use Rattle.bar_audit.specs.Code.Given.{case_with, key_with, GivesCase, GivesKey, GivesCases, GivesKeys, is_told, told}
 use Rattle.bar_audit.specs.Recordings.{datagrams_in}
-use Rattle.bar_audit.specs.Shown.{case_shown}
-use Rattle.bar_audit.specs.Sides.{receiver}
+use Rattle.bar_audit.specs.Code.Shown.{case_shown}
+use Rattle.bar_audit.specs.Code.Sides.{receiver}
 
 -- what inputs promise of a side
 abbrev pub case_found : Session → List Input → Side → Option Promised
@@ -27,7 +27,7 @@ case_found s inputs side = option_map (promised_by s) (case_in s side.x side.rol
 abbrev pub key_found : Session → List Input → Side → Bool
 key_found s inputs side = has_key_in s side.x side.role inputs
 
--- What is kept now, with what the rest adds, is what was kept at first, with what all inputs add.
+-- What is kept now, with what the remaining inputs add, is what was kept at first, with what all inputs add.
 pub record Taken (s : Session) (party : ℕ) (all rest : List Input) (old now : Findings) (before after most : ℕ) : Type 0 where
   pub cases : (side : Side)
       → case_with party side (case_at now.cases.entries side) (case_found s rest side)
@@ -140,7 +140,7 @@ taken-more s party all left rest bytes old now new before after later most e t c
       cost = cost-more (is_told party) (datagram_of s bytes) (datagrams_in s rest) after later most (before + told s party all * most) at.cost cost;
     }
 
--- what was checked so far, where no more is kept
+-- what was checked so far, if no more is kept
 pub taken-within : (s : Session) (party : ℕ) (all left rest : List Input) (bytes : List ℕ) (old now : Findings) (before after later most : ℕ)
     → left ≡ event.Datagram bytes ∷ rest → Taken s party all left old now before after most
     → later ≤ after + (if option_map_or (is_told party) (datagram_of s bytes) false then most else 0)
@@ -173,7 +173,7 @@ taken-keys s party all left old now before after most e t side =
     go true false = refl
     go false k = refl
 
--- the bound on steps, once there is none to check but those that were
+-- the bound on steps, if only the inputs so far have to be checked
 pub taken-cost : (s : Session) (party : ℕ) (all left : List Input) (old now : Findings) (before after most : ℕ)
     → Taken s party all left old now before after most → after ≤ before + told s party all * most
 taken-cost s party all left old now before after most t = omega (arith, t.cost)

@@ -10,9 +10,9 @@ use Rattle.bar_wire.specs.Datagram.{Briefcase}
 use Rattle.bar_rules.specs.Member.{Session}
 use Rattle.bar_audit.specs.declared.audit.Audit.{Audit}
 use Rattle.bar_audit.specs.Audits.{Audits}
-use Rattle.bar_audit.specs.Balance.{has_those, is_paid_by, is_balanced_by}
+use Rattle.bar_audit.specs.Code.Balance.{has_those, is_paid_by, is_balanced_by}
 use Rattle.bar_audit.specs.Exchanges.{has_terms, is_paid, unbalanced}
-use Rattle.bar_audit.specs.Found.{Promised, promised_by, case_from, has_key_from}
+use Rattle.bar_audit.specs.Code.Found.{Promised, promised_by, case_from, has_key_from}
 use Rattle.bar_audit.specs.Recordings.{Recording}
 
 paid-is : (s : Session) (recordings : List Recording) (a : Audit) → Audits s recordings a → (x : Exchange) (role : Role)

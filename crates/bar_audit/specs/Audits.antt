@@ -5,12 +5,12 @@ use Rattle.bar_window.specs.declared.exchange.Role.{Role}
 use Rattle.bar_rules.specs.Member.{Session}
 use Rattle.bar_audit.specs.declared.audit.Audit.{Audit}
 use Rattle.bar_audit.specs.Exchanges.{AreRecorded}
-use Rattle.bar_audit.specs.Findings.{case_at, has_side, has_number, AreKeptWindows, KeepsExchanges}
-use Rattle.bar_audit.specs.Found.{promised_by, case_from, has_key_from}
+use Rattle.bar_audit.specs.Code.Findings.{case_at, has_side, has_number, AreKeptWindows, KeepsExchanges}
+use Rattle.bar_audit.specs.Code.Found.{promised_by, case_from, has_key_from}
 use Rattle.bar_audit.specs.Recordings.{Recording, is_given}
-use Rattle.bar_audit.specs.Sides.{side_at}
+use Rattle.bar_audit.specs.Code.Sides.{side_at}
 
--- It knows whose recordings are given, what is found of each side of an exchange, and which exchanges are recorded.
+-- It contains whose recordings are given, what is found of each side of an exchange, and which exchanges are recorded.
 pub record Audits (s : Session) (recordings : List Recording) (a : Audit) : Type 0 where
   pub parties : (party : ℕ) → has_number a.parties.keys party ≡ is_given recordings party
   pub cases :

@@ -1,13 +1,8 @@
 pub mod Recordings
-pub mod Found
+pub mod Code
 pub mod Exchanges
 pub mod Listed
 pub mod Runs
 pub mod Laws
-pub mod Sides
-pub mod Findings
-pub mod Balance
-pub mod Shown
-pub mod Given
 pub mod Audits
 pub mod Worlds

@@ -9,7 +9,7 @@ use Rattle.bar_rules.specs.Peer.Exchanges.{inserted}
 use Rattle.bar_audit.specs.Exchanges.{AreRecorded, is_recorded}
 use Rattle.bar_audit.specs.Recordings.{Recording, datagrams_in}
 
--- the exchanges of the datagrams that inputs spell
+-- the exchanges of the datagrams that inputs encode
 abbrev pub exchanges_in : Session → List Input → List Exchange
 exchanges_in s inputs = filter_map (λ d. exchange_of d.message) (datagrams_in s inputs)
 
@@ -21,14 +21,14 @@ abbrev pub in_order : List Exchange → List Exchange
 in_order [] = []
 in_order (x ∷ xs) = inserted x (in_order xs)
 
--- of those, the recorded ones
+-- the recorded ones of these exchanges
 unfoldable pub recorded : Session → List Recording → List Exchange
 recorded s recordings = in_order (filter (is_recorded s recordings) (exchanges_named s recordings))
 
--- this list is one of the recorded exchanges
+-- this is a list of the recorded exchanges
 abbrev pub IsListed : Type 0
 IsListed = (s : Session) (recordings : List Recording) → AreRecorded s recordings (recorded s recordings)
 
--- and no other list is
+-- it is the only such list
 abbrev pub IsOneList : Type 0
 IsOneList = (s : Session) (recordings : List Recording) (xs : List Exchange) → AreRecorded s recordings xs → xs ≡ recorded s recordings

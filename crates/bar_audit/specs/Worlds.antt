@@ -13,7 +13,7 @@ use Rattle.bar_audit.specs.Runs.{AreOfRuns}
 abbrev pub secrets_of : Setup → ℕ → List ℕ
 secrets_of setup party = unwrap_or (slice_get setup.secrets party) []
 
--- of each of these parties the inputs that the moves gave it
+-- for each of these parties, the inputs that the moves gave it
 abbrev pub recordings_of : Setup → List Move → List ℕ → List Recording
 recordings_of setup moves parties = map (λ party. record { party = party; inputs = inputs_of setup moves party }) parties
 
@@ -23,15 +23,15 @@ pub record IsTrustedPeer (setup : Setup) (trusted : ℕ → Bool) (peer : ℕ) :
   pub high : peer ≤ setup.session.shape.peers
   pub trust : trusted peer ≡ true
 
--- Where nothing is forged, the recordings of trusted peers list the inputs of their runs, and nothing in them bears an accepted signature of
--- one of them that it didn't make.
+-- If nothing is forged, the recordings of trusted peers list the inputs of their runs, and nothing in them has an accepted signature of one
+-- of them that it didn't make.
 abbrev pub WorldsAreOfRuns : Type 0
 WorldsAreOfRuns =
     (setup : Setup) (trusted : ℕ → Bool) (moves : List Move) (peers : List ℕ) → ForgesNothing setup trusted moves
     → AllByRecursion (IsTrustedPeer setup trusted) peers
     → AreOfRuns setup.session (secrets_of setup) (recordings_of setup moves peers)
 
--- so an audit of them calls nothing unbalanced
+-- so an audit of them finds nothing unbalanced
 abbrev pub WorldsAreBalanced : Type 0
 WorldsAreBalanced =
     (setup : Setup) (trusted : ℕ → Bool) (moves : List Move) (peers : List ℕ) (xs : List Exchange) → ForgesNothing setup trusted moves

@@ -1,10 +1,10 @@
 //! Adding recordings.
 ghost use Rattle.std.specs.Prelude.{◌≡◌, ◌+◌, ◌*◌, ◌≤◌, ◌↔◌, ◌++◌, [], ◌∷◌, List, IsTrue, IfOk, Err};
-ghost use Rattle.bar_record.specs.Inputs.{inputs_left};
+ghost use Rattle.bar_record.specs.Code.Inputs.{inputs_left};
 ghost use Rattle.bar_rules.specs.Member.{Session as RulesSession};
 ghost use Rattle.bar_rules.specs.Verifiers.{IsVerifierOf};
 ghost use Rattle.bar_audit.specs.Audits.{Audits};
-ghost use Rattle.bar_audit.specs.Given.{told};
+ghost use Rattle.bar_audit.specs.Code.Given.{told};
 ghost use Rattle.bar_audit.specs.Recordings.{Recording, is_given};
 
 use crate::audit::Audit;
@@ -21,7 +21,7 @@ use std::collections::{BTreeMap, BTreeSet};
 use std::sync::ledger::Ledger;
 
 impl Audit {
-    /// An auditor that was given no recording. It takes no memory.
+    /// An auditor that was given no recording. It allocates no memory.
     pub fn make(alloc: Global) -> Audit
         ensures { (s : RulesSession) → Audits s [] result }
     {
@@ -36,12 +36,12 @@ impl Audit {
         }
     }
 
-    /// Adds the recording of a party, whose session is that of the others. Each CASE and KEY to the party has one verification at most,
-    /// whose hashes are counted.
+    /// Adds the recording of a party, which must be of the same session as the others. Each CASE and KEY to the party has at most one
+    /// verification, whose hashes are counted.
     ///
     /// # Errors
     ///
-    /// `Twice` exactly where this party was added before, and `NoMemory`. Then nothing is handed back.
+    /// `Twice` if and only if this party was added before; `NoMemory` if memory is refused. Then the auditor is not returned.
     pub fn add<V: Verifier, L: Ledger>(
         self,
         session: &Session,

@@ -2,8 +2,8 @@
 ghost use Rattle.std.specs.Prelude.{◌≡◌};
 ghost use Rattle.std.specs.Option.{option_map_or};
 ghost use Rattle.bar_rules.specs.Member.{Session};
-ghost use Rattle.bar_audit.specs.Balance.{is_balanced_by, is_paid_by};
-ghost use Rattle.bar_audit.specs.Findings.{AreKeptWindows, case_at};
+ghost use Rattle.bar_audit.specs.Code.Balance.{is_balanced_by, is_paid_by};
+ghost use Rattle.bar_audit.specs.Code.Findings.{AreKeptWindows, case_at};
 
 use crate::findings::Findings;
 use crate::side::Side;
@@ -20,7 +20,7 @@ impl Findings {
         }
     }
 
-    /// Whether a side whose KEY was received has received the other side's CASE, with the terms of its own one if that was received.
+    /// Whether a side whose KEY was received has received the other side's CASE, with the same terms as its own one if that was received.
     fn is_paid(&self, x: Exchange, role: Role) -> bool
         ensures { (s : Session) → AreKeptWindows s self.now.cases.entries → result ≡ is_paid_by self.now x role }
     {

@@ -1,12 +1,12 @@
-//! What the bytes of a datagram in a party's recording add.
+//! What a datagram in a party's recording adds, given its bytes.
 ghost use Rattle.std.specs.Prelude.{◌+◌, ◌≤◌, false, Some, OnOk, if◌then◌else◌};
 ghost use Rattle.std.specs.Option.{option_map_or};
 ghost use Rattle.bar_wire.specs.Places.{datagram_of};
-ghost use Rattle.bar_wire.specs.Views.{datagram};
+ghost use Rattle.bar_wire.specs.Code.Views.{datagram};
 ghost use Rattle.bar_rules.specs.Verifiers.{IsVerifierOf};
-ghost use Rattle.bar_judge.specs.Parts.{IsRead};
-ghost use Rattle.bar_audit.specs.Findings.{AreKeptWindows, KeepsExchanges};
-ghost use Rattle.bar_audit.specs.Given.{GivesCase, GivesKey, is_told};
+ghost use Rattle.bar_judge.specs.Code.Parts.{IsRead};
+ghost use Rattle.bar_audit.specs.Code.Findings.{AreKeptWindows, KeepsExchanges};
+ghost use Rattle.bar_audit.specs.Code.Given.{GivesCase, GivesKey, is_told};
 
 use crate::findings::{Findings, NoMemory};
 use crate::side::Side;
@@ -56,8 +56,8 @@ fn give_view<V: Verifier, L: Ledger>(
     }
 }
 
-/// Keeps what the bytes of a datagram in the recording of a party show of the side that sent it, if they spell a datagram for this party.
-/// A CASE or a KEY has one verification at most, whose hashes are counted.
+/// Keeps what the bytes of a datagram in the recording of a party show of the side that sent it, if they encode a datagram for this party.
+/// A CASE or a KEY has at most one verification, whose hashes are counted.
 pub(crate) fn give<V: Verifier, L: Ledger>(
     found: &mut Findings,
     session: &Session,

@@ -1,8 +1,8 @@
-//! What an auditor tells of an exchange.
+//! What an auditor reports of an exchange.
 
 use bar_window::Exchange;
 
-/// What an auditor tells of an exchange, by role, the initiator's first: how many items each side's CASE promises, 0 where none was
+/// What an auditor reports of an exchange, by role, the initiator's first: how many items each side's CASE promises, 0 if none was
 /// received, and whether each side's KEY was received.
 #[derive(Clone, Copy, Debug, PartialEq, Eq)]
 pub struct Line {

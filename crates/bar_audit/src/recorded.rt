@@ -1,7 +1,7 @@
 //! Which exchanges are recorded.
 ghost use Rattle.std.specs.Prelude.{◌≡◌, ◌<◌, ◌^◌, filter, OnOk, vec_len};
 ghost use Rattle.bar_rules.specs.Peer.Exchanges.{IsRising};
-ghost use Rattle.bar_audit.specs.Findings.{are_given, has_number};
+ghost use Rattle.bar_audit.specs.Code.Findings.{are_given, has_number};
 
 use crate::findings::NoMemory;
 use crate::side::exchanges_are_in_order;
@@ -9,14 +9,14 @@ use bar_window::Exchange;
 use std::alloc::AllocError;
 use std::collections::BTreeSet;
 
-/// Whether a party is among some.
+/// Whether a party is in a set of parties.
 fn has_party(parties: &BTreeSet<u16>, party: u16) -> bool
     ensures { result ≡ has_number parties.now.keys party }
 {
     parties.contains(&party)
 }
 
-/// Lists those of some exchanges, in order, whose parties are both given: at most 2 to the 32 of them but one.
+/// Lists, in order, those exchanges of which both parties are given: at most 2^32 - 1 of them.
 pub(crate) fn list_recorded(
     recorded: &mut Vec<Exchange>,
     exchanges: &BTreeSet<Exchange>,

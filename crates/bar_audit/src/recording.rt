@@ -1,9 +1,9 @@
 //! What all inputs of a party's recording add.
 ghost use Rattle.std.specs.Prelude.{◌+◌, ◌*◌, ◌≤◌, OnOk};
-ghost use Rattle.bar_record.specs.Inputs.{inputs_left};
+ghost use Rattle.bar_record.specs.Code.Inputs.{inputs_left};
 ghost use Rattle.bar_rules.specs.Verifiers.{IsVerifierOf};
-ghost use Rattle.bar_audit.specs.Findings.{AreKeptWindows, KeepsExchanges};
-ghost use Rattle.bar_audit.specs.Given.{GivesCases, GivesKeys, told};
+ghost use Rattle.bar_audit.specs.Code.Findings.{AreKeptWindows, KeepsExchanges};
+ghost use Rattle.bar_audit.specs.Code.Given.{GivesCases, GivesKeys, told};
 
 use crate::findings::{Findings, NoMemory};
 use crate::giving::give;
@@ -14,8 +14,8 @@ use bar_seal::Verifier;
 use bar_wire::Input;
 use std::sync::ledger::Ledger;
 
-/// Keeps what the inputs of a party's recording show of the sides that sent to it. Each CASE and KEY to the party has one verification at
-/// most, whose hashes are counted.
+/// Keeps what the inputs of a party's recording show of the sides that sent to it. Each CASE and KEY to the party has at most one
+/// verification, whose hashes are counted.
 pub(crate) fn give_all<V: Verifier, L: Ledger>(
     found: &mut Findings,
     session: &Session,

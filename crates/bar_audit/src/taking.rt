@@ -1,15 +1,15 @@
 //! What a CASE or a KEY of a recording adds.
 ghost use Rattle.std.specs.Prelude.{◌≡◌, ◌+◌, ◌≤◌, Some, IfSome, OnOk, option_map};
 ghost use Rattle.std.specs.Bool.{then_some};
-ghost use Rattle.bar_terms.specs.Windows.{AreWindowsOf};
+ghost use Rattle.bar_terms.specs.Code.Windows.{AreWindowsOf};
 ghost use Rattle.bar_wire.specs.Datagram.{kind_of, place_of};
-ghost use Rattle.bar_wire.specs.Views.{datagram, plain};
+ghost use Rattle.bar_wire.specs.Code.Views.{datagram, plain};
 ghost use Rattle.bar_wire.specs.declared.kind.Kind.TheVariants as kinds;
 ghost use Rattle.bar_rules.specs.Verifiers.{IsVerifierOf};
-ghost use Rattle.bar_judge.specs.Parts.{IsRead, plain_briefcase};
-ghost use Rattle.bar_audit.specs.Findings.{AreKeptWindows, KeepsExchanges, plain_case};
-ghost use Rattle.bar_audit.specs.Found.{can_be_opened, promised_by};
-ghost use Rattle.bar_audit.specs.Shown.{AddsCase, AddsKey, place_at};
+ghost use Rattle.bar_judge.specs.Code.Parts.{IsRead, plain_briefcase};
+ghost use Rattle.bar_audit.specs.Code.Findings.{AreKeptWindows, KeepsExchanges, plain_case};
+ghost use Rattle.bar_audit.specs.Code.Found.{can_be_opened, promised_by};
+ghost use Rattle.bar_audit.specs.Code.Shown.{AddsCase, AddsKey, place_at};
 
 use crate::findings::{Findings, NoMemory};
 use crate::kept::KeptCase;
@@ -46,7 +46,7 @@ fn kept_of(session: &Session, x: Exchange, case: &Briefcase<'_>) -> Option<KeptC
     })
 }
 
-/// Keeps that a KEY was received, if its signature is accepted and the KEY of its side isn't kept yet.
+/// Records that a KEY was received, if its signature is accepted and no KEY of its side is recorded yet.
 pub(crate) fn take_key<V: Verifier, L: Ledger>(
     found: &mut Findings,
     session: &Session,
@@ -70,7 +70,7 @@ pub(crate) fn take_key<V: Verifier, L: Ledger>(
     found.put_key(side)
 }
 
-/// Keeps what a CASE promises, if it can be opened, its signature is accepted and none is kept of its side yet.
+/// Keeps what a CASE promises, if it can be opened, its signature is accepted and nothing is kept of its side's CASE yet.
 pub(crate) fn take_case<V: Verifier, L: Ledger>(
     found: &mut Findings,
     session: &Session,

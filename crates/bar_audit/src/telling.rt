@@ -1,11 +1,11 @@
-//! What an auditor tells.
+//! What an auditor reports.
 ghost use Rattle.std.specs.Prelude.{◌≡◌, ℕ, None, List, IsTrue, length, option_map, slice_get, true};
 ghost use Rattle.bar_window.specs.declared.exchange.Exchange.{Exchange as AnyExchange};
 ghost use Rattle.bar_window.specs.declared.exchange.Role.{Role as AnyRole};
 ghost use Rattle.bar_rules.specs.Member.{Session};
 ghost use Rattle.bar_audit.specs.Audits.{Audits};
 ghost use Rattle.bar_audit.specs.Exchanges.{is_recorded, line_of, unbalanced};
-ghost use Rattle.bar_audit.specs.Found.{has_key_from};
+ghost use Rattle.bar_audit.specs.Code.Found.{has_key_from};
 ghost use Rattle.bar_audit.specs.Laws.{HoldsPartners};
 ghost use Rattle.bar_audit.specs.Recordings.{Recording};
 ghost use Rattle.bar_audit.specs.Runs.{AreOfRuns};
@@ -24,7 +24,7 @@ impl Audit {
         self.recorded.len() as u32
     }
 
-    /// What is told of a recorded exchange, by its number from 0 in their order; `None` exactly past the last.
+    /// The report on a recorded exchange, by its number from 0 in their order; `None` if and only if the number is past the last.
     pub fn line(&self, k: u32) -> Option<Line>
         ensures { (s : Session) (recordings : List Recording) → Audits s recordings self.now
             → result ≡ option_map (line_of s recordings) (slice_get self.now.recorded.items k) }
@@ -45,12 +45,12 @@ impl Audit {
         })
     }
 
-    /// The first of the recorded exchanges that isn't balanced; `None` exactly where all are.
+    /// The first of the recorded exchanges that isn't balanced; `None` if and only if all are.
     ///
-    /// Where it is `None`, each party whose key was received in a recorded exchange holds its partner's briefcase, by whose terms both
-    /// sides promise equally many items, and which has the terms of its own one, if that was received. And it is `None` where each
-    /// recording lists the inputs of a run of its party, and what stands in the recordings as signed by these parties is what they
-    /// signed.
+    /// If it is `None`, each party whose key was received in a recorded exchange holds its partner's briefcase, by whose terms both sides
+    /// promise equally many items. If the party's own briefcase was received, it has the same terms. It is `None` if each recording lists
+    /// the inputs of a run of its party, and everything in the recordings that has an accepted signature of one of these parties was signed
+    /// by it.
     pub fn unbalanced(&self) -> Option<Exchange>
         ensures first { (s : Session) (recordings : List Recording) → Audits s recordings self.now
             → result ≡ unbalanced s recordings self.now.recorded.items }

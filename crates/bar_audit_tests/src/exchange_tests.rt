@@ -1,4 +1,5 @@
-//! What an auditor tells of one exchange, by the recordings of both its parties. The keys are by a Python program written from RFC 8554.
+//! Tests of what an auditor reports about one exchange, from the recordings of both its parties. The keys were made by a Python program
+//! written from RFC 8554.
 ghost use Rattle.std.specs.Prelude.{◌≡◌, ◌<◌};
 
 use bar_audit::{Audit, AuditFault, Line};
@@ -27,7 +28,7 @@ const X: Exchange = Exchange {
     responder: 2,
 };
 
-/// The CASE of a peer, the initiator for role 0, to the other one. It promises one update, and its cipher is all zeros.
+/// The CASE of a peer (peer 1 is the initiator, with role 0) to the other one. It promises one update, and its cipher is all zeros.
 fn case_of(alloc: Global, scheme: &LmsScheme, from: u8) -> Result<Vec<u8>, AllocError> {
     let (to, role) = if from == 1 { (2, 0) } else { (1, 1) };
     let mut bytes = front(alloc, 8, [0, from, 0, to], 6)?;
@@ -62,7 +63,7 @@ fn recording_of(alloc: Global, party: u16, datagrams: &[&Vec<u8>]) -> Result<Vec
     Ok(bytes)
 }
 
-/// An auditor that is given one recording more.
+/// An auditor after one more recording.
 fn add<L: Ledger>(
     audit: Audit,
     session: &Session,
@@ -74,7 +75,7 @@ fn add<L: Ledger>(
     audit.add(session, &verifier, party, items, steps)
 }
 
-/// An auditor that is given recordings in turn.
+/// An auditor after these recordings in turn.
 fn audit_with<L: Ledger>(
     alloc: Global,
     session: &Session,
@@ -101,7 +102,7 @@ fn audit_of(
     audit_with::<Brand>(alloc, session, recordings, Blank::new(1))
 }
 
-/// Compares what is told of the recordings of both parties with a line of the exchange, and with whether it is balanced.
+/// Compares the auditor's report on the recordings of both parties with a line about the exchange, and with whether it is balanced.
 fn expect(
     rt: &impl Abort,
     alloc: Global,

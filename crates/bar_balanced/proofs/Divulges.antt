@@ -1,4 +1,4 @@
--- A DIVULGE is heard: the initiator's part of the terms is known.
+-- After a DIVULGE is heard, the initiator's part of the terms is known.
 use Rattle.std.proofs.Common.{◌≡◌, ◌∙◌, ℕ, Bool, true, false, List, Some, None, refl, sym, ap}
 use Rattle.std.specs.Prelude.{option_and_then, if◌then◌else◌}
 use Rattle.std.specs.Bool.{then_some}
@@ -10,7 +10,7 @@ use Rattle.bar_window.specs.declared.exchange.XKind.TheVariants.{Balanced}
 use Rattle.bar_window.specs.declared.terms.Terms.TheVariants as raw
 use Rattle.bar_window.specs.declared.window.Window.{Window}
 use Rattle.bar_window.specs.Terms as forms
-use Rattle.bar_window.specs.Window.{members}
+use Rattle.bar_window.specs.Code.Window.{members}
 use Rattle.bar_wire.specs.Bodies.{history_in, offer_in, reply_in}
 use Rattle.bar_wire.specs.Datagram.{Datagram, Divulge, is_of}
 use Rattle.bar_wire.specs.declared.kind.Kind.{Kind}
@@ -18,9 +18,9 @@ use Rattle.bar_wire.specs.declared.kind.Kind.TheVariants as kinds
 use Rattle.bar_rules.specs.Member.{Member}
 use Rattle.bar_rules.specs.Peer.Knowledge.{Knowledge, learned}
 use Rattle.bar_rules.specs.Peer.Terms.{body_on, terms_by, trade_terms}
-use Rattle.bar_ledger.specs.Hearing.{same_datagram}
-use Rattle.bar_ledger.specs.Kept.{Kept}
-use Rattle.bar_exchange.specs.Parts.{with_heard_part}
+use Rattle.bar_ledger.specs.Code.Hearing.{same_datagram}
+use Rattle.bar_ledger.specs.Code.Kept.{Kept}
+use Rattle.bar_exchange.specs.Code.Parts.{with_heard_part}
 use Rattle.bar_exchange.proofs.Hearing.{HearsFirst, hears_first}
 use Rattle.bar_exchange.proofs.One.{RecallsOne}
 use Rattle.bar_exchange.proofs.PartKept.{part_said}
@@ -28,7 +28,7 @@ use Rattle.bar_exchange.proofs.Places.{first_one, not_of_kind, is_of_itself}
 use Rattle.bar_exchange.proofs.Same.{body_same}
 use Rattle.bar_bytes.proofs.Options.{or-untold}
 
--- what is kept by the responder of a balanced exchange, which didn't hear the DIVULGE
+-- the kept state of the responder of a balanced exchange, before it hears the DIVULGE
 abbrev pub of_responder : List ℕ → Window → Window → Kept → Kept
 of_responder nonce ha hb kept = record kept { entry = record kept.entry { role = Responder; terms = raw.Balanced nonce ha hb }; divulge = None }
 

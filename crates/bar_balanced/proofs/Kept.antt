@@ -1,4 +1,4 @@
--- What a ledger recalls once a RESPONSE or a DIVULGE is kept.
+-- What a ledger recalls after a RESPONSE or a DIVULGE is kept.
 use Rattle.std.proofs.Common.{◌≡◌, ◌+◌, ◌∙◌, ℕ, Bool, true, false, List, Option, Some, None, is_some, refl, sym, ap, subst}
 use Rattle.std.specs.Prelude.{nat_le, option_map, option_and_then}
 use Rattle.std.specs.Option.{option_map_or}
@@ -11,23 +11,23 @@ use Rattle.bar_window.specs.declared.exchange.Role.TheVariants.{Initiator, Respo
 use Rattle.bar_window.specs.declared.exchange.XKind.TheVariants.{Balanced, Push}
 use Rattle.bar_window.specs.declared.terms.Terms.TheVariants as raw
 use Rattle.bar_window.specs.declared.window.Window.{Window}
-use Rattle.bar_window.specs.Window.{members}
+use Rattle.bar_window.specs.Code.Window.{members}
 use Rattle.bar_window.specs.Terms.{plain_terms}
 use Rattle.bar_wire.specs.Bodies.{commitment_in}
 use Rattle.bar_wire.specs.Datagram.{Datagram, Response, Divulge, Place, place_by, part_of, kind_of}
 use Rattle.bar_wire.specs.declared.kind.Kind.TheVariants as kinds
-use Rattle.bar_wire.specs.Views.{AreTermWindows, IsWindowIn}
+use Rattle.bar_wire.specs.Code.Views.{AreTermWindows, IsWindowIn}
 use Rattle.bar_rules.specs.Member.{Member}
 use Rattle.bar_rules.specs.Peer.Admission.{is_row_met}
 use Rattle.bar_rules.specs.Peer.Knowledge.{Knowledge, this_round, has_said_of, has_heard_of, with_heard, learned}
 use Rattle.bar_ledger.specs.declared.entry.Entry.{Entry}
 use Rattle.bar_ledger.specs.declared.ledger.Ledger.{Ledger}
-use Rattle.bar_ledger.specs.Hearing.{hears}
-use Rattle.bar_ledger.specs.Kept.{Kept, heard_of}
-use Rattle.bar_ledger.specs.Memory.{MayHear, find_in}
-use Rattle.bar_ledger.specs.Recalls.{Recalls, kind_of_terms}
-use Rattle.bar_exchange.specs.Keeping.{MayKeep}
-use Rattle.bar_exchange.specs.Parts.{ChangesKept, with_heard_part}
+use Rattle.bar_ledger.specs.Code.Hearing.{hears}
+use Rattle.bar_ledger.specs.Code.Kept.{Kept, heard_of}
+use Rattle.bar_ledger.specs.Code.Memory.{MayHear, find_in}
+use Rattle.bar_ledger.specs.Code.Recalls.{Recalls, kind_of_terms}
+use Rattle.bar_exchange.specs.Code.Keeping.{MayKeep}
+use Rattle.bar_exchange.specs.Code.Parts.{ChangesKept, with_heard_part}
 use Rattle.bar_exchange.proofs.Admitted.{IsAdmittedOf, admitted_at}
 use Rattle.bar_exchange.proofs.Hearing.{HearsFirst, first_of}
 use Rattle.bar_exchange.proofs.KeptChanges.{IsThere, there, said_kept, heard_kept, may_hear_at, recalls_kept}
@@ -41,7 +41,7 @@ use Rattle.bar_balanced.proofs.Responses.{of_initiator, response_one}
 
 -- ---- a RESPONSE
 
--- The exchange of an admitted datagram is a balanced one that is kept.
+-- The admitted datagram is of a balanced exchange that is kept.
 pub record IsOfKept (me : Member) (k : Knowledge) (l : Ledger) (d : Datagram) (x : Exchange) (side : Role) : Type 0 where
   pub kind_is : x.kind ≡ Balanced
   pub of : IsAdmittedOf me k d x side
@@ -161,9 +161,9 @@ divulge_learned me k l new d bytes x r nonce old_nonce ha old_ha hb e m body pla
       by = part_by me x kinds.Divulge bytes (raw.Balanced nonce ha hb) full kept o.at.by (sym o.kind_is) (window, windows.1);
     })
 
--- ---- entries that can't be found
+-- ---- impossible entries
 
--- its terms are those of a balanced one
+-- the terms of its entry are those of a balanced exchange
 pub no_push : (me : Member) (k : Knowledge) (l : Ledger) (d : Datagram) (x : Exchange) (side : Role) (e : Entry) (young aged want give : Window) (junk : ℕ) → IsOfKept me k l d x side
     → Some e ≡ option_map (λ (k : Kept). k.entry) (find_in l x) → e.terms ≡ raw.Push young aged want give junk → ⊥
 no_push me k l d x side e young aged want give junk o entry terms =

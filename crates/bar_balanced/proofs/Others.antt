@@ -1,4 +1,4 @@
--- Of the other kinds nothing is written in a balanced exchange.
+-- In a balanced exchange nothing of the other kinds is written.
 use Rattle.std.proofs.Common.{◌≡◌, ◌∙◌, None, refl, ap}
 use Rattle.std.specs.Prelude.{option_map}
 use Rattle.bar_window.specs.declared.exchange.Exchange.{Exchange}
@@ -12,8 +12,8 @@ use Rattle.bar_rules.specs.Peer.Agreement.{IsRecent}
 use Rattle.bar_rules.specs.Peer.Knowledge.{Knowledge}
 use Rattle.bar_rules.specs.Peer.Writing.{body_now}
 use Rattle.bar_ledger.specs.declared.ledger.Ledger.{Ledger}
-use Rattle.bar_ledger.specs.Lookups.{knows_offer, knows_answer, offer_of, reply_of}
-use Rattle.bar_ledger.specs.Recalls.{Recalls}
+use Rattle.bar_ledger.specs.Code.Lookups.{knows_offer, knows_answer, offer_of, reply_of}
+use Rattle.bar_ledger.specs.Code.Recalls.{Recalls}
 use Rattle.bar_exchange.proofs.Knowing.{no_part}
 use Rattle.bar_exchange.proofs.Begun.{no_offer, no_reply}
 

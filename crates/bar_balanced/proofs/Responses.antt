@@ -1,4 +1,4 @@
--- A RESPONSE is heard: the terms are complete.
+-- After a RESPONSE is heard, the terms are complete.
 use Rattle.std.proofs.Common.{◌≡◌, ◌∙◌, ℕ, true, false, List, Some, is_some, refl, sym, ap}
 use Rattle.std.specs.Prelude.{option_map, option_and_then}
 use Rattle.bar_window.specs.declared.exchange.Exchange.{Exchange}
@@ -7,7 +7,7 @@ use Rattle.bar_window.specs.declared.exchange.Role.TheVariants.{Initiator, Respo
 use Rattle.bar_window.specs.declared.exchange.XKind.TheVariants.{Balanced}
 use Rattle.bar_window.specs.declared.terms.Terms.TheVariants as raw
 use Rattle.bar_window.specs.declared.window.Window.{Window}
-use Rattle.bar_window.specs.Window.{members}
+use Rattle.bar_window.specs.Code.Window.{members}
 use Rattle.bar_wire.specs.Bodies.{history_in, offer_in, reply_in}
 use Rattle.bar_wire.specs.Datagram.{Datagram, Response, is_of}
 use Rattle.bar_wire.specs.declared.kind.Kind.{Kind}
@@ -17,9 +17,9 @@ use Rattle.bar_rules.specs.Values.{datagram_bytes}
 use Rattle.bar_rules.specs.Peer.Exchanges.{role_of}
 use Rattle.bar_rules.specs.Peer.Knowledge.{Knowledge}
 use Rattle.bar_rules.specs.Peer.Terms.{body_on, terms_by, trade_terms}
-use Rattle.bar_ledger.specs.Hearing.{same_datagram}
-use Rattle.bar_ledger.specs.Kept.{Kept}
-use Rattle.bar_exchange.specs.Parts.{with_heard_part}
+use Rattle.bar_ledger.specs.Code.Hearing.{same_datagram}
+use Rattle.bar_ledger.specs.Code.Kept.{Kept}
+use Rattle.bar_exchange.specs.Code.Parts.{with_heard_part}
 use Rattle.bar_exchange.proofs.Hearing.{HearsFirst, hears_first}
 use Rattle.bar_exchange.proofs.Learned.{AddsHeard}
 use Rattle.bar_exchange.proofs.One.{RecallsOne}
@@ -28,7 +28,7 @@ use Rattle.bar_exchange.proofs.Places.{first_one, not_of_kind, is_of_itself}
 use Rattle.bar_exchange.proofs.Same.{body_same, other_body}
 use Rattle.bar_bytes.proofs.Options.{or-untold}
 
--- what is kept by the initiator of a balanced exchange, whose REQUEST is said
+-- the kept state of the initiator of a balanced exchange, after it said its REQUEST
 abbrev pub of_initiator : List ℕ → Window → Window → Kept → Kept
 of_initiator nonce ha hb kept = record kept { entry = record kept.entry { role = Initiator; first_said = true; terms = raw.Balanced nonce ha hb } }
 

@@ -1,4 +1,4 @@
--- Which bodies stand at a place of a balanced exchange.
+-- The bodies that can have a place in a balanced exchange.
 use Rattle.std.proofs.Common.{◌≡◌, ◌∙◌, ℕ, List, refl, sym}
 use Rattle.std.specs.Borrow.{Bor}
 use Rattle.bar_window.specs.declared.exchange.Role.{Role}
@@ -7,13 +7,13 @@ use Rattle.bar_window.specs.declared.exchange.XKind.{XKind}
 use Rattle.bar_window.specs.declared.exchange.XKind.TheVariants.{Balanced, Push}
 use Rattle.bar_window.specs.declared.terms.Terms.{Terms}
 use Rattle.bar_window.specs.declared.window.Window.{Window}
-use Rattle.bar_wire.specs.Views.{plain}
+use Rattle.bar_wire.specs.Code.Views.{plain}
 use Rattle.bar_wire.specs.declared.place.Place.{Place}
 use Rattle.bar_wire.specs.declared.view.Body.{Body as RawBody}
 use Rattle.bar_wire.specs.declared.view.Body.TheVariants as bodies
 use Rattle.bar_exchange.proofs.Placed.{BodyStands, kind_at}
 
--- a body of no kind that balanced exchanges have
+-- a body with such a place is of one of the kinds of balanced exchanges
 pub none_balanced : (from to : ℕ) (b : RawBody) (p : Place) → BodyStands from to (plain b) p → p.x.kind ≡ Balanced
     → ((r : ℕ) (seed commitment : Bor (List ℕ)) → b ≡ bodies.Request r seed commitment → ⊥) → ((r : ℕ) (hb : Window) → b ≡ bodies.Response r hb → ⊥)
     → ((r : ℕ) (nonce : Bor (List ℕ)) (ha : Window) → b ≡ bodies.Divulge r nonce ha → ⊥)

@@ -1,1 +1,1 @@
-pub mod Balanced
+pub mod Code

@@ -2,18 +2,18 @@
 ghost use Rattle.std.specs.Prelude.{◌≡◌, ◌≤◌, ℕ};
 ghost use Rattle.bar_window.specs.declared.exchange.XKind.TheVariants.{Balanced};
 ghost use Rattle.bar_window.specs.declared.exchange.Role.TheVariants.{Initiator};
-ghost use Rattle.bar_window.specs.Window.{members};
+ghost use Rattle.bar_window.specs.Code.Window.{members};
 ghost use Rattle.bar_wire.specs.Bodies.{commitment_in};
 ghost use Rattle.bar_wire.specs.Datagram.{Datagram, Divulge, exchange_by};
 ghost use Rattle.bar_wire.specs.Grammar.{SpellsDatagram};
-ghost use Rattle.bar_wire.specs.Views.{IsWindowIn};
+ghost use Rattle.bar_wire.specs.Code.Views.{IsWindowIn};
 ghost use Rattle.bar_rules.specs.Member.{Member};
 ghost use Rattle.bar_rules.specs.Peer.Admission.{is_row_met, meets_commitment};
 ghost use Rattle.bar_rules.specs.Peer.Agreement.{IsRecent};
 ghost use Rattle.bar_rules.specs.Peer.Knowledge.{Knowledge};
-ghost use Rattle.bar_store.specs.Holds.{Holds};
-ghost use Rattle.bar_ledger.specs.Recalls.{Recalls};
-ghost use Rattle.bar_balanced.specs.Balanced.{AreSpelled};
+ghost use Rattle.bar_store.specs.Code.Holds.{Holds};
+ghost use Rattle.bar_ledger.specs.Code.Recalls.{Recalls};
+ghost use Rattle.bar_balanced.specs.Code.Balanced.{AreSpelled};
 
 use bar_exchange::{ANSWER_DEADLINE, has_digests, is_window_in};
 use bar_ledger::Ledger;
@@ -22,7 +22,7 @@ use bar_store::Store;
 use bar_window::{Exchange, Role, Window};
 use bar_wire::{Body, Kind, Shape, decode};
 
-/// The commitment of a REQUEST.
+/// The commitment in a REQUEST.
 fn commitment_in(bytes: &[u8], shape: &Shape) -> Option<[u8; 32]>
     ensures { (d : Datagram) → SpellsDatagram shape.now d bytes.now → result ≡ commitment_in d.message.body }
 {
@@ -35,7 +35,7 @@ fn commitment_in(bytes: &[u8], shape: &Shape) -> Option<[u8; 32]>
     }
 }
 
-/// Whether a nonce and a history meet the commitment of the REQUEST that was heard of an exchange.
+/// Whether a nonce and a history match the commitment in the REQUEST that was heard in an exchange.
 fn meets_commitment(ledger: &Ledger, x: Exchange, nonce: &[u8; 32], ha: &Window) -> bool
     ensures { (me : Member) (k : Knowledge) → Recalls me k ledger.now → AreSpelled me k
         → IsRecent me k x.round → IsWindowIn me.session.shape x.round ha.now
@@ -54,7 +54,7 @@ fn meets_commitment(ledger: &Ledger, x: Exchange, nonce: &[u8; 32], ha: &Window)
     committed == commitment(&shape.id, x, nonce, ha, shape.life)
 }
 
-/// The row of a DIVULGE.
+/// Whether a DIVULGE meets its row.
 pub(crate) fn admits_divulge(
     store: &Store,
     ledger: &Ledger,

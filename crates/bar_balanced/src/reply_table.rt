@@ -1,16 +1,16 @@
-//! What is answered to a datagram.
+//! The replies to the datagrams of balanced exchanges.
 ghost use Rattle.std.specs.Prelude.{◌≡◌, ◌+◌, ◌≤◌, ◌||◌, ◌&&◌, [], ◌∷◌, Some, true, nat_le};
 ghost use Rattle.bar_window.specs.declared.exchange.XKind.TheVariants.{Balanced};
-ghost use Rattle.bar_wire.specs.Views.{datagram};
+ghost use Rattle.bar_wire.specs.Code.Views.{datagram};
 ghost use Rattle.bar_rules.specs.Member.{Member};
 ghost use Rattle.bar_rules.specs.Peer.Agreement.{IsRecent};
 ghost use Rattle.bar_rules.specs.Peer.Knowledge.{Knowledge, this_round};
 ghost use Rattle.bar_rules.specs.Peer.Orders.{Reveal, GiveCase};
 ghost use Rattle.bar_rules.specs.Peer.Replies.{is_trade_worth, orders_when, reply_orders};
 ghost use Rattle.bar_rules.specs.Peer.Terms.{terms_of};
-ghost use Rattle.bar_ledger.specs.Recalls.{Recalls};
-ghost use Rattle.bar_exchange.specs.Placing.{StandsAt};
-ghost use Rattle.bar_exchange.specs.Says.{orders_of_reply, AreFitting};
+ghost use Rattle.bar_ledger.specs.Code.Recalls.{Recalls};
+ghost use Rattle.bar_exchange.specs.Code.Placing.{StandsAt};
+ghost use Rattle.bar_exchange.specs.Code.Says.{orders_of_reply, AreFitting};
 
 use crate::worth::is_worth;
 use bar_exchange::{ANSWER_DEADLINE, REQUEST_DEADLINE, Say, Says};
@@ -19,7 +19,7 @@ use bar_roster::Session;
 use bar_window::Exchange;
 use bar_wire::{Body, Kind, Place, View};
 
-/// To a RESPONSE that is admitted now: the DIVULGE and the CASE.
+/// The replies to a RESPONSE that is admitted now: the DIVULGE and the CASE.
 fn to_response(ledger: &Ledger, x: Exchange, is_new: bool) -> Says
     ensures fitting { AreFitting result }
     ensures orders { (me : Member) (k : Knowledge) → Recalls me k ledger.now → (is_new ≡ true → IsRecent me k x.round)
@@ -40,7 +40,7 @@ fn to_response(ledger: &Ledger, x: Exchange, is_new: bool) -> Says
     }
 }
 
-/// To a DIVULGE: the CASE.
+/// The reply to a DIVULGE: the CASE.
 fn to_divulge(ledger: &Ledger, x: Exchange, is_new: bool) -> Says
     ensures fitting { AreFitting result }
     ensures orders { (me : Member) (k : Knowledge) → 2 ≤ me.session.shape.life → Recalls me k ledger.now
@@ -55,7 +55,7 @@ fn to_divulge(ledger: &Ledger, x: Exchange, is_new: bool) -> Says
     }
 }
 
-/// What is answered to a datagram at a place of a balanced exchange that is admitted now or comes again.
+/// The replies to a datagram of a balanced exchange that is admitted now or is a repeat.
 pub fn replies(
     session: &Session,
     ledger: &Ledger,

@@ -1,4 +1,4 @@
-//! What a ledger is told of the requests and answers that this peer says.
+//! How a ledger records the requests and answers that this peer says.
 ghost use Rattle.std.specs.Prelude.{◌≡◌, ◌+◌, ◌≤◌, true};
 ghost use Rattle.bar_window.specs.declared.exchange.Role.TheVariants.{Initiator};
 ghost use Rattle.bar_window.specs.declared.exchange.XKind.TheVariants.{Balanced};
@@ -10,10 +10,10 @@ ghost use Rattle.bar_rules.specs.Secrets.{secrets_of};
 ghost use Rattle.bar_rules.specs.Peer.Exchanges.{role_of};
 ghost use Rattle.bar_rules.specs.Peer.Holdings.{history};
 ghost use Rattle.bar_rules.specs.Peer.Knowledge.{Knowledge, this_round, answer_deadline, has_heard_of, with_said};
-ghost use Rattle.bar_store.specs.Holds.{Holds};
-ghost use Rattle.bar_ledger.specs.Memory.{HasSame};
-ghost use Rattle.bar_ledger.specs.Recalls.{Recalls};
-ghost use Rattle.bar_exchange.specs.Keeping.{IsSaidNow, HasRoomLeft};
+ghost use Rattle.bar_store.specs.Code.Holds.{Holds};
+ghost use Rattle.bar_ledger.specs.Code.Memory.{HasSame};
+ghost use Rattle.bar_ledger.specs.Code.Recalls.{Recalls};
+ghost use Rattle.bar_exchange.specs.Code.Keeping.{IsSaidNow, HasRoomLeft};
 
 use bar_exchange::{answer, ask};
 use bar_ledger::Ledger;
@@ -21,7 +21,7 @@ use bar_seeds::Secrets;
 use bar_store::Store;
 use bar_window::{Exchange, Terms};
 
-/// Remembers that this peer says its REQUEST of an exchange, by which it commits to its nonce and to what it holds.
+/// Records that this peer says its REQUEST of an exchange, in which it commits to its nonce and to the updates that it holds.
 pub fn say_request(ledger: &mut Ledger, store: &Store, secrets: &Secrets, x: Exchange)
     ensures learns { (me : Member) (k : Knowledge) (d : Datagram) → Holds me k store.now → Recalls me k ledger.old
         → secrets.now ≡ secrets_of me → IsSaidNow me k d Request x → x.kind ≡ Balanced → role_of me x ≡ Initiator → HasRoomLeft me k
@@ -37,7 +37,7 @@ pub fn say_request(ledger: &mut Ledger, store: &Store, secrets: &Secrets, x: Exc
     ask(ledger, x, terms);
 }
 
-/// Remembers that this peer says its RESPONSE to a request, with what it holds.
+/// Records that this peer says its RESPONSE to a request, with the updates that it holds.
 pub fn say_response(ledger: &mut Ledger, store: &Store, x: Exchange)
     ensures learns { (me : Member) (k : Knowledge) (d : Datagram) → Holds me k store.now → Recalls me k ledger.old
         → IsSaidNow me k d Response x → d.message.body ≡ bodies.Response x.round (history me.session k.block x.round)

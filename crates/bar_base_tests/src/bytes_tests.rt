@@ -1,4 +1,4 @@
-//! A tagged hash of another program, and bytes that are taken one part after another.
+//! Tests of a tagged hash, against a value of another program, and of reading bytes part by part.
 
 use bar_bytes::{Reader, Short, Tagged};
 
@@ -16,7 +16,7 @@ fn takes_so_many_bytes(rt: HostRuntime) {
     assert_eq!(rt; reader.take(3), Ok([0xff, 0xfe, 0xfd].as_slice()));
 }
 
-// From Python's hashlib, over the 45 bytes of tag, id and fields.
+// From Python's hashlib, over the 45 bytes of the tag, the id and the fields.
 #[test]
 fn hashes_tag_id_and_fields(rt: HostRuntime) {
     let id = [0x00, 0x11, 0x22, 0x33, 0x44, 0x55, 0x66, 0x77];

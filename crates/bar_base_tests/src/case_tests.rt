@@ -1,6 +1,6 @@
 ghost use Rattle.std.specs.Prelude.{◌≡◌, ◌<◌, ◌≤◌, Some, true, length, IfOk};
 ghost use Rattle.bar_window.specs.Terms.{plain_terms};
-ghost use Rattle.bar_terms.specs.Windows.{AreAligned};
+ghost use Rattle.bar_terms.specs.Code.Windows.{AreAligned};
 ghost use Rattle.bar_terms.specs.Terms.{can_promise};
 ghost use Rattle.bar_case.specs.Items.{promised_len};
 
@@ -16,7 +16,7 @@ const ID: [u8; 8] = [0x00, 0x11, 0x22, 0x33, 0x44, 0x55, 0x66, 0x77];
 
 const KEY: [u8; 32] = [7; 32];
 
-/// Each update has the same block.
+/// A source in which each update has the same block.
 #[derive(Drop)]
 struct Same {
     block: [u8; 1024],
@@ -90,7 +90,7 @@ fn sealed(
     sealed_under(alloc, x, terms, role, cap, &KEY, &hi())
 }
 
-/// What a key shows of a briefcase, and the first block that it opens.
+/// What a key shows about a briefcase, and the first block that it opens.
 fn opened(
     x: Exchange,
     terms: &Terms,
@@ -108,12 +108,12 @@ fn opened(
     (opening, blocks[0])
 }
 
-/// Whether some bytes stand from a place on.
+/// Whether `part` occurs at an offset of some bytes.
 fn stands_at(bytes: &[u8], at: usize, part: &[u8]) -> bool {
     bytes.get(at..).unwrap_or(b"").starts_with(part)
 }
 
-/// A block of zeros is sealed by the keystream itself.
+/// Sealing a block of zeros gives the keystream itself.
 #[test]
 #[tactic(auto, using(bar_terms::proofs::Equal::terms_promise))]
 fn the_keystream_is_that_of_the_standard(rt: HostRuntime) -> Result<(), Fail> {

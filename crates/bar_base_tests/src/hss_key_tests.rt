@@ -1,4 +1,4 @@
-//! Key texts and key files of two levels, with a session, keys and anchors that a program made that shares nothing with this one.
+//! Tests of key texts and key files of two levels. The session, keys and anchors were made by an independent program.
 
 use bar_hss::{HssKeyFile, hss_key_text};
 use bar_roster::Session;
@@ -90,8 +90,9 @@ fn a_key_file_of_two_levels_has_its_key_and_anchor(rt: HostRuntime) -> Result<()
     Ok(())
 }
 
-/// The first fault of the peer's text where it is spent and a fresh one is asked for, and what is replaced in it by what. Worked by hand from
-/// docs/FORMATS.md: what isn't TOML, then what is missing or out of its range, then what the session doesn't have, then a key that is spent.
+/// What is replaced in the peer's text, by what, and the first fault of the result. The text is spent, and a fresh one is asked for. The
+/// rows are worked by hand from docs/FORMATS.md. The faults in order: invalid TOML; a value missing or out of its range; one that the
+/// session doesn't have; a spent key.
 const FAULTS: &str = "spent = true|spent|NotToml
 top = 5||BadValue
 top = 5|top = 8|BadValue

@@ -1,4 +1,4 @@
-//! Signatures of two levels: outside vectors, and each public call once.
+//! Tests of signatures of two levels: test vectors from other implementations, and each public call once.
 
 mod vectors;
 
@@ -60,7 +60,7 @@ fn others_signatures_are_accepted(rt: HostRuntime) -> Result<(), Fail> {
     assert!(rt; accepts(&verifier, &key, &message, &sig));
     assert_eq!(rt; leaf_of(&rt, &verifier, &sig), vector.leaf);
     assert!(rt; !accepts(&verifier, &key, b"another message", &sig));
-    // the number of keys, and in both parts the leaf, the randomizer and the path, and the key between them
+    // the number of keys; in both parts the leaf, the randomizer and the path; and the key between the parts
     for place in [3, 7, 12, 1_295, 1_300, 1_320, 1_355, 1_360, 2_643] {
         assert!(rt; place < sig.len());
         sig[place] ^= 1;
@@ -90,8 +90,8 @@ fn signed<S: Scheme>(
     Ok(sig)
 }
 
-/// Checks where the parts of a signature are: how many keys are signed, the leaf and the types of the upper one, the types of the lower public
-/// key, and the leaf and the types of the lower one (RFC 8554, 6.2 and 5.4).
+/// Checks the offsets of the parts of a signature: how many keys are signed, the leaf and the types of the upper one, the types of the
+/// lower public key, and the leaf and the types of the lower one (RFC 8554, 6.2 and 5.4).
 fn check_parts(rt: &impl Abort, sig: &[u8], upper: u8, lower: u8) {
     assert_eq!(rt; sig.len(), 2_644);
     for (place, number) in [
@@ -110,7 +110,7 @@ fn check_parts(rt: &impl Abort, sig: &[u8], upper: u8, lower: u8) {
     }
 }
 
-// The key, the message and the hash of its signature are by another program.
+// The key, the message and the hash of its signature come from another program.
 #[test]
 fn a_secret_gives_its_key_and_signatures(rt: HostRuntime) -> Result<(), Fail> {
     let alloc = rt.alloc();
@@ -141,7 +141,7 @@ fn a_secret_gives_its_key_and_signatures(rt: HostRuntime) -> Result<(), Fail> {
         "760be46d9a7532d0d19dd39cf7ec7a1efc3a7b9b4f6ed14b161edb292ab6ec8b"
     );
     check_parts(&rt, &sig, 1, 4);
-    // two leaves of one tree, one of another tree in its place, and the first again
+    // two leaves of one tree, one of another tree that replaces it, and the first again
     for leaf in [36, 36, 37, 132, 36] {
         let wanted = signed(&rt, alloc, &plain, leaf, &message)?;
         let found = signed(&rt, alloc, &scheme, leaf, &message)?;

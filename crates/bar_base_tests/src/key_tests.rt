@@ -1,4 +1,4 @@
-//! Key texts and key files, with values that a program made that shares nothing with this one.
+//! Tests of key texts and key files, with values that an independent program made.
 
 use bar_roster::{KeyFile, KeyFileFault, Session, key_text};
 use std::alloc::Global;
@@ -33,7 +33,7 @@ const KEY: &str =
 
 const ANCHOR: &str = "7d42701b352a962f7b93a08f44069823e35a35f58196fe87405a25b0189cf714";
 
-// The broadcaster's secret; its public key, which stands in the session, is by a Python program written from RFC 8554.
+// The broadcaster's secret. Its public key, which is in the session, was made by a Python program written from RFC 8554.
 const CASTER_SECRET: &str = "adba12a48106cbc6119fe8fac3e4df58a497d74bed9486c41acad3818572de2a";
 
 const BEFORE_KEY: &str = "version = 1
@@ -155,7 +155,7 @@ fn the_broadcasters_key_file_has_its_key(rt: HostRuntime) -> Result<(), Fail> {
     Ok(())
 }
 
-// A key file whose writing was stopped, at whatever byte, is no fresh key.
+// If writing a key file stopped at any byte, the file doesn't read as a fresh key.
 #[test]
 fn no_front_of_a_spent_key_text_is_a_fresh_key(rt: HostRuntime) -> Result<(), Fail> {
     let alloc = rt.alloc();

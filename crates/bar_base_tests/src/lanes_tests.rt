@@ -1,4 +1,4 @@
-//! Hashes of another program, and kernels beside plain loops, around the numbers of their lanes.
+//! Tests of hashes against another program, and of kernels against plain loops, for lengths around the numbers of lanes.
 
 use bar_lanes::{Digests, Heads, Tails, and_not, count, sha_eight, xor_into};
 use std::simd::u32x8;

@@ -1,6 +1,6 @@
-//! Tests of signatures, of seals and of the texts of sessions and keys, by their public calls.
+//! Tests of signatures, seals and the texts of sessions and keys, through their public calls.
 //!
-//! They stand in a crate of their own, since a crate with tests is proved twice.
+//! They are in a crate of their own, because a crate with tests is proved twice.
 #![tactic(auto)]
 
 #[cfg(test)]

@@ -1,4 +1,4 @@
-//! Keys and signatures of other programs.
+//! Tests of keys and signatures against values of other programs.
 
 mod vectors;
 
@@ -32,7 +32,7 @@ fn accepts(key: &PublicKey, message: &[u8], sig: &[u8]) -> bool {
     is_counted::<Brand>(key, message, sig, Blank::new(1))
 }
 
-/// Checks that a signature is accepted under its key, and no longer where one bit of it is changed.
+/// Checks that a signature is accepted under its key, and isn't accepted if one of its bits is changed.
 fn check_signature(rt: &impl Abort, key: &PublicKey, message: &[u8], signature: &mut [u8]) {
     assert!(rt; accepts(key, message, signature));
     assert!(rt; !accepts(key, b"another message", signature));
@@ -93,7 +93,7 @@ fn signs_byte_for_byte_as_others_do(rt: HostRuntime) -> Result<(), Fail> {
     Ok(())
 }
 
-// The public key and the hash of the signature are by a Python program written from the RFC alone.
+// The public key and the hash of the signature come from a Python program written from RFC 8554 alone.
 #[test]
 fn a_secret_gives_its_key_and_signatures(rt: HostRuntime) -> Result<(), Fail> {
     let params = Params {

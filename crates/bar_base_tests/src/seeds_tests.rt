@@ -1,4 +1,4 @@
-//! Outside vectors, and each public call once.
+//! Tests of seeds: test vectors from other implementations, and each public call once.
 
 ghost use Rattle.std.specs.Prelude.{◌≡◌, ◌<◌, ◌≤◌};
 ghost use Rattle.bar_session.specs.Points.{AreSeeds};
@@ -21,7 +21,7 @@ const SECRET: [u8; 32] = [
     26, 27, 28, 29, 30, 31,
 ];
 
-// (id, party, rounds, secret, anchor), made by a program that shares nothing with this one.
+// (id, party, rounds, secret, anchor), made by an independent program.
 const ANCHORS: [(&str, u16, u32, &str, &str); 3] = [
     (
         "0503aabbccddeeff",
@@ -126,7 +126,7 @@ fn is_known_from<L: Ledger>(
     session.is_known_seed(1, round, seed, points, &mut Steps::<L>::new(blank))
 }
 
-/// Whether it is peer 1's seed of a round, by what is kept of the peers' seeds.
+/// Whether `seed` is peer 1's seed of a round, by the checkpoints of the peers' seeds.
 fn is_known(session: &Session, points: &mut Checkpoints, round: u32, seed: &[u8; 32]) -> bool
     requires peers { 1 ≤ session.now.shape.peers }
     requires kept { AreSeeds session.now points.old }
@@ -135,7 +135,7 @@ fn is_known(session: &Session, points: &mut Checkpoints, round: u32, seed: &[u8;
     is_known_from::<Brand>(session, points, round, seed, Blank::new(1))
 }
 
-/// Whether each row's seed is that of its round, one behind the other.
+/// Checks for each row in order whether its seed is that of its round.
 fn check_seeds(
     rt: &impl Abort,
     session: &Session,
@@ -150,7 +150,7 @@ fn check_seeds(
     }
 }
 
-// Seeds in the order in which they come: later ones are tested from the last that was accepted, earlier and wrong ones from the anchor.
+// Seeds in the order in which they arrive. A later one is tested from the last that was accepted, an earlier or wrong one from the anchor.
 #[test]
 fn seeds_are_known_in_any_order(rt: HostRuntime) -> Result<(), Fail> {
     let (id_text, party, rounds, secret_text, _) = ANCHORS[1];
@@ -178,7 +178,7 @@ fn seeds_are_known_in_any_order(rt: HostRuntime) -> Result<(), Fail> {
     Ok(())
 }
 
-// The partner that a seed of one byte, repeated, gives a peer, or 0 where there is no such peer.
+// The partner that a seed of one repeated byte gives a peer, or 0 if there is no such peer.
 fn partner_by(byte: u8, kind: XKind, me: u16, peers: u16) -> u16 {
     if peers < 2 || me < 1 || me > peers {
         return 0;
@@ -240,7 +240,7 @@ fn a_secret_gives_nonces_and_keys(rt: HostRuntime) -> Result<(), Fail> {
     Ok(())
 }
 
-// A history of updates (5, 1) and (7, 63), where updates live for three rounds.
+// A history of updates (5, 1) and (7, 63), in a session with a life of three rounds.
 #[test]
 fn commitments_hash_the_history(rt: HostRuntime) -> Result<(), Fail> {
     let x = Exchange {

@@ -10,7 +10,7 @@ const ID: [u8; 8] = [0x00, 0x11, 0x22, 0x33, 0x44, 0x55, 0x66, 0xab];
 const NUMBERS: &str =
     "version = 1\nid = \"00112233445566aB\"\nrounds = 1\nlife = 2\ncap = 3\nper_round = 4\nport = 1024\ntick_ms = 5\nlms = 5\nots = 4\nfanout = 1\n";
 
-/// The text with parties: the public key of party i is made of its types and i, and the anchor of peer i is i.
+/// The text with parties added. The public key of party i consists of its types and i, and the anchor of peer i is i.
 fn with_parties(alloc: Global, numbers: &str, lms: u8, peers: u16) -> Result<String, AllocError> {
     let mut text = format!(in alloc; "{numbers}key = \"{lms:08x}00000004{:096x}\"\n", 0)?;
     for peer in 1..=peers {

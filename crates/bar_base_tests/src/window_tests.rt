@@ -10,7 +10,7 @@ fn update(round: u32, index: u8) -> UpdateId
     UpdateId { round, index }
 }
 
-/// Some updates of the window of round 6, where updates live for four rounds.
+/// Some updates of the window of round 6, in a session with a life of four rounds.
 fn window_with(rt: &impl Abort, ids: &[UpdateId]) -> Window {
     let mut window = Window::empty(6, 4, false);
     for id in ids {

@@ -5,7 +5,7 @@ use std::test::Fail;
 
 const ID: [u8; 8] = [0x00, 0x11, 0x22, 0x33, 0x44, 0x55, 0x66, 0x77];
 
-/// A session of two peers and ten rounds, where updates live for four rounds.
+/// A session of two peers, ten rounds and a life of four rounds.
 fn shape() -> Shape {
     Shape {
         version: 1,
@@ -50,7 +50,7 @@ fn datagram(
     Ok(bytes)
 }
 
-/// One datagram of each kind: kind, sender, receiver, the first fields, and its length.
+/// One datagram of each kind: its kind, sender, receiver, first fields and length.
 const EACH_KIND: [(u8, u16, u16, &[u8], usize); 12] = [
     (1, 0, 0xffff, &[0, 0, 0, 1, 1], 1505),
     (2, 0, 1, &[0, 0, 0, 1, 7], 1045),
@@ -87,7 +87,7 @@ fn a_datagram_that_is_cut_off_has_the_fault_of_its_length(rt: HostRuntime) -> Re
     Ok(())
 }
 
-/// The length of each kind in version 2 whose fields have windows, and of a REQUEST; the others are those of version 1.
+/// The lengths in version 2 of the kinds whose fields have windows, and of a REQUEST. The others are the same as in version 1.
 const WIDE_KINDS: [(u8, u16, u16, &[u8], usize); 7] = [
     (1, 0, 0xffff, &[0, 0, 0, 1, 128], 5569),
     (3, 1, 2, &[0, 0, 0, 1], 1536),
@@ -135,7 +135,7 @@ fn datagrams_out_of_the_grammar_have_their_faults(rt: HostRuntime) -> Result<(),
         // a window of round 2, and one with a word past it
         (4, 2, 1, &[0, 0, 0, 2], 1504, None),
         (4, 2, 1, &late_word, 1504, Some(WireFault::BadField)),
-        // parties that fall, three parties of two peers, and two where three are counted
+        // parties in descending order, three parties with only two peers, and two where the count says three
         (
             12,
             0,
@@ -160,7 +160,7 @@ fn datagrams_out_of_the_grammar_have_their_faults(rt: HostRuntime) -> Result<(),
             1477,
             Some(WireFault::BadLength),
         ),
-        // a kind of exchange that there is not, in the length of a push, and a case of nothing
+        // an invalid kind of exchange, with the length of a push, and an empty case
         (
             8,
             1,

@@ -1,11 +1,11 @@
--- Rooms of one size that are made one by one.
+-- Rooms of one size, made one by one.
 use Rattle.std.proofs.Common.{◌≡◌, ℕ, zero, suc, ◌+◌, ◌++◌, List, [], ◌∷◌, length, Option, Some, None, refl, sym, ap, ◌∙◌, inl, inr, ◌⊎◌, arith, length-append}
 use Rattle.std.specs.Prelude.{slice_get, option_and_then}
 use Rattle.std.proofs.lemmas.Option.{same_Some}
-use Rattle.bar_bytes.specs.Room.{RoomFor}
-use Rattle.bar_bytes.specs.Sized.{AreSized}
+use Rattle.bar_bytes.specs.Code.Room.{RoomFor}
+use Rattle.bar_bytes.specs.Code.Sized.{AreSized}
 
--- so many rooms of one size, in which nothing is kept
+-- n rooms of one size, in which nothing is kept
 pub record AreEmpty (size : ℕ) (rooms : List RoomFor) (n : ℕ) : Type 0 where
   pub count : length rooms ≡ n
   pub each : (number : ℕ) (room : RoomFor) → slice_get rooms number ≡ Some room → room ≡ record { size = size; kept = None }

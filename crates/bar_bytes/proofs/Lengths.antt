@@ -1,4 +1,4 @@
--- How many bytes a number takes, and how long a list is in which one is replaced.
+-- The number of bytes of an encoded number, and the length of a list in which an element is replaced.
 use Rattle.std.proofs.Common.{◌≡◌, ℕ, zero, suc, List, [], ◌∷◌, length, slice_set, refl, ap}
 use Rattle.bar_bytes.specs.Bytes.{u16_bytes, u32_bytes, u64_bytes}
 

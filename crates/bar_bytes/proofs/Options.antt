@@ -1,4 +1,4 @@
--- Values that may lack: the first of two, one by a test, and whether one is there.
+-- Optional values: the first of two, one made by a test, and whether there is one.
 use Rattle.std.proofs.Common.{◌≡◌, Bool, true, false, ◌||◌, Option, Some, None, refl, sym, ap, ◌∙◌}
 use Rattle.std.specs.Prelude.{is_some, option_map}
 use Rattle.std.specs.Bool.{then_some}
@@ -15,7 +15,7 @@ or-none (Some a) = refl
 pub or-untold : {A : Type 0} (o : Option A) (b : Bool) (a : A) → b ≡ false → option_or o (then_some b a) ≡ o
 or-untold o b a e = ap (λ t. option_or o (then_some t a)) e ∙ or-none o
 
--- ---- one by a test
+-- ---- one made by a test
 
 pub some-then : {A : Type 0} (b : Bool) (a : A) → is_some (then_some b a) ≡ b
 some-then true a = refl
@@ -32,7 +32,7 @@ then-is false a c e = absurd (cc)
 pub then-value : {A : Type 0} (b : Bool) (a c : A) → then_some b a ≡ Some c → a ≡ c
 then-value b a c e = (then-is b a c e).1
 
--- ---- whether one is there
+-- ---- whether there is one
 
 pub some-copied : {A : Type 0} (o : Option (Bor A)) → is_some (option_copied o) ≡ is_some o
 some-copied None = refl

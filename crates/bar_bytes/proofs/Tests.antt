@@ -1,4 +1,4 @@
--- Tests that are joined with a known one, and what is tested against itself.
+-- Tests that are joined with a known one, and values that are compared with themselves.
 use Rattle.std.proofs.Common.{◌≡◌, ℕ, Bool, true, false, ◌&&◌, ◌||◌, eqb, List, refl}
 use Rattle.std.specs.Str.{bytes_eq}
 use Rattle.std.proofs.lemmas.Bool.{and_parts, eq-eqb}

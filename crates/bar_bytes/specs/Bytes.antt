@@ -14,6 +14,6 @@ u32_bytes n = to_be_bytes w32 n
 unfoldable pub u64_bytes : ℕ → List ℕ
 u64_bytes n = to_be_bytes w64 n
 
--- the number of the first two bytes, of which those past the end count as zero
+-- the number in the first two bytes; bytes past the end count as zero
 abbrev pub first_u16 : List ℕ → ℕ
 first_u16 bytes = 256 * slice_index bytes 0 + slice_index bytes 1

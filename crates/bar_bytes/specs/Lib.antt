@@ -1,9 +1,4 @@
 pub mod Bytes
 pub mod Tag
-pub mod Held
-pub mod Putting
-pub mod Written
+pub mod Code
 pub use Rattle.sha2.specs.Sha256
-pub mod Room
-pub mod Sized
-pub mod Rooms

@@ -1,4 +1,4 @@
-//! Exact reads and writes of bytes, rooms for them, tagged hashes, and steps that are counted in a proof alone.
+//! Exact reads and writes of bytes, rooms for them, tagged hashes, and steps that are counted in proofs only.
 #![tactic(auto)]
 
 pub use read::{Reader, Short, split_array, split_u8, split_u16, split_u32, split_u64};

@@ -1,4 +1,4 @@
-//! Bytes that are read from the front.
+//! Reads of bytes from the front of a slice.
 
 ghost use Rattle.std.specs.Prelude.{◌≡◌, ℕ, ◌+◌, ◌<◌, ◌≤◌, ◌++◌, ◌↔◌, List, length, drop, IfOk, IsErr, OnOk, OnErr};
 ghost use Rattle.bar_bytes.specs.Bytes.{u8_bytes, u16_bytes, u32_bytes, u64_bytes, first_u16};

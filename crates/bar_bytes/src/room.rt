@@ -1,4 +1,4 @@
-//! Room for bytes, whose memory is taken when it is made.
+//! Room for bytes, whose memory is allocated when it is made.
 
 use std::alloc::{AllocError, Global};
 use std::marker::Model;
@@ -13,7 +13,7 @@ pub struct Room {
 
 impl Model for Room {
     ghost use Rattle.std.specs.Prelude.{◌≤◌, vec_capacity};
-    ghost use Rattle.bar_bytes.specs.Room.{RoomFor, if_kept};
+    ghost use Rattle.bar_bytes.specs.Code.Room.{RoomFor, if_kept};
 
     ghost Value = { RoomFor };
 
@@ -49,7 +49,7 @@ impl Room {
         self.is_kept = true;
     }
 
-    /// Keeps more bytes behind those that are kept, where some are.
+    /// Appends bytes to those that are kept. If none are kept, it does nothing.
     pub fn add(&mut self, bytes: &[u8])
         requires { IfSome self.old.kept (λ kept. length kept + length bytes.now ≤ self.old.size) }
         ensures { self.new ≡ record { size = self.old.size; kept = option_map (λ kept. kept ++ bytes.now) self.old.kept } }
@@ -68,7 +68,7 @@ impl Room {
         self.is_kept = false;
     }
 
-    /// The bytes that are kept, or `None` where none are.
+    /// The bytes that are kept, or `None` if none are.
     pub fn kept(&self) -> Option<&[u8]>
         ensures { option_copied result ≡ self.now.kept }
     {

@@ -1,10 +1,10 @@
-//! Rooms of one size, by number.
-ghost use Rattle.bar_bytes.specs.Sized.{AreSized};
+//! Numbered rooms of one size.
+ghost use Rattle.bar_bytes.specs.Code.Sized.{AreSized};
 
 use crate::room::Room;
 use std::alloc::{AllocError, Global};
 
-/// A room for each number from 0 on, all of one size. All memory is taken when they are made.
+/// Rooms that are numbered from 0 on, all of one size. All memory is allocated when they are made.
 #[derive(Debug, Drop)]
 pub struct Rooms {
     size: usize,
@@ -14,7 +14,7 @@ pub struct Rooms {
 
 impl Rooms {
     ghost use Rattle.std.specs.Prelude.{◌≡◌, ℕ, ◌+◌, ◌<◌, ◌≤◌, ◌++◌, ◌==◌, length, Some, None, IfOk, IfSome, option_copied, option_map, if◌then◌else◌};
-    ghost use Rattle.bar_bytes.specs.Rooms.{kept_in};
+    ghost use Rattle.bar_bytes.specs.Code.Rooms.{kept_in};
 
     /// Empty rooms for the numbers below `count`, each for at most `size` bytes.
     pub fn make(alloc: Global, count: usize, size: usize) -> Result<Rooms, AllocError>
@@ -30,7 +30,7 @@ impl Rooms {
         Ok(Rooms { size, rooms })
     }
 
-    /// The most bytes of a room.
+    /// The most bytes that a room holds.
     pub fn size(&self) -> usize
         ensures { result ≡ self.now.size }
     {
@@ -48,7 +48,7 @@ impl Rooms {
         self.rooms[number].keep(bytes);
     }
 
-    /// Keeps more bytes behind those that are kept in a room, where some are.
+    /// Appends bytes to those that are kept in a room. If none are kept there, it does nothing.
     pub fn add(&mut self, number: usize, bytes: &[u8])
         requires last { number < length self.old.rooms.items }
         requires fits { IfSome (kept_in self.old number) (λ kept. length kept + length bytes.now ≤ self.old.size) }
@@ -60,7 +60,7 @@ impl Rooms {
         self.rooms[number].add(bytes);
     }
 
-    /// The bytes that are kept in a room, or `None` where none are or there is no such room.
+    /// The bytes that are kept in a room, or `None` if none are or there is no such room.
     pub fn get(&self, number: usize) -> Option<&[u8]>
         ensures { option_copied result ≡ kept_in self.now number }
     {

@@ -1,13 +1,13 @@
-//! Steps that are counted in a proof alone.
+//! Steps that are counted in proofs only.
 
 ghost use Rattle.std.specs.Prelude.{◌≡◌, ℕ, ◌+◌, ◌<◌};
 
 use std::marker::Model;
 use std::sync::ledger::{Blank, Book, Ledger, Share};
 
-/// How many steps were taken; one step is one SHA-256.
+/// The number of steps taken; one step is one SHA-256.
 ///
-/// The count takes no bytes, and only `tick` and `eight` change it.
+/// The count takes no memory, and only `tick` and `eight` change it.
 #[derive(Drop)]
 pub struct Steps<L: Ledger> {
     book: Book<L>,

@@ -2,9 +2,9 @@
 
 ghost use Rattle.std.specs.Prelude.{◌≡◌, ◌+◌, ◌<◌, ◌≤◌, ◌++◌, ◌↔◌, [], length, OnOk, OnErr, IsErr, drop};
 ghost use Rattle.bar_bytes.specs.Bytes.{u8_bytes, u16_bytes, u32_bytes};
-ghost use Rattle.bar_bytes.specs.Putting.{Appends};
+ghost use Rattle.bar_bytes.specs.Code.Putting.{Appends};
 
-/// Writes the bytes at a place, and gives the place after them.
+/// Writes the bytes at offset `at`, and returns the offset after them.
 pub fn put(out: &mut [u8], at: usize, bytes: &[u8]) -> usize
     requires { at + length bytes.now ≤ length out.old }
     ensures { Appends out.old at bytes.now out.new result }
@@ -14,7 +14,7 @@ pub fn put(out: &mut [u8], at: usize, bytes: &[u8]) -> usize
     end
 }
 
-/// Writes a byte at a place, and gives the place after it.
+/// Writes a byte at offset `at`, and returns the offset after it.
 pub fn put_u8(out: &mut [u8], at: usize, number: u8) -> usize
     requires { at + 1 ≤ length out.old }
     ensures writes { Appends out.old at (u8_bytes number) out.new result }
@@ -23,7 +23,7 @@ pub fn put_u8(out: &mut [u8], at: usize, number: u8) -> usize
     put(out, at, &[number])
 }
 
-/// Writes a number in two bytes at a place, the highest byte first, and gives the place after them.
+/// Writes a number in two bytes at offset `at`, the highest byte first, and returns the offset after them.
 #[tactic(auto, unfolding(crate::specs::Bytes::u16_bytes))]
 pub fn put_u16(out: &mut [u8], at: usize, number: u16) -> usize
     requires { at + 2 ≤ length out.old }
@@ -33,7 +33,7 @@ pub fn put_u16(out: &mut [u8], at: usize, number: u16) -> usize
     put(out, at, &number.to_be_bytes())
 }
 
-/// Writes a number in four bytes at a place, the highest byte first, and gives the place after them.
+/// Writes a number in four bytes at offset `at`, the highest byte first, and returns the offset after them.
 #[tactic(auto, unfolding(crate::specs::Bytes::u32_bytes))]
 pub fn put_u32(out: &mut [u8], at: usize, number: u32) -> usize
     requires { at + 4 ≤ length out.old }
@@ -56,9 +56,9 @@ pub struct Writer<'a> {
 }
 
 impl<'a> Writer<'a> {
-    ghost use Rattle.bar_bytes.specs.Written.{written, unwritten};
+    ghost use Rattle.bar_bytes.specs.Code.Written.{written, unwritten};
 
-    /// A writer to this slice, of which nothing is written yet.
+    /// A writer to this slice. Nothing is written yet.
     pub fn new(out: &'a mut [u8]) -> Writer<'a>
         ensures same_slice { result.out.ghost_name ≡ out.entry.ghost_name }
         ensures written { written result ≡ [] }

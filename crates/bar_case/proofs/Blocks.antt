@@ -22,7 +22,7 @@ plain_same junk b c [] ts h = junk_same ts
     junk_same (t ∷ ts) = ap (λ z. item_bytes junk b (Junk t) ++ z) (junk_same ts)
 plain_same junk b c (u ∷ us) ts h = λ i. unwrap_or (h.0 i) [] ++ plain_same junk b c us ts h.1 i
 
--- what is sealed has the blocks of the promised updates alone
+-- sealing depends on the blocks of the promised updates alone
 pub sealed_same : (id : List ℕ) (x : Exchange) (cap : ℕ) (t : Terms) (role : Role) (key : List ℕ) (b c : UpdateId → Option (List ℕ))
     → AllByRecursion (λ u. b u ≡ c u) (promised_updates cap t role) → sealed id x cap t role key b ≡ sealed id x cap t role key c
 unfolding sealed
@@ -37,7 +37,7 @@ held_before blocks (u ∷ us) ts h =
     All-cons (λ u. IsSome (blocks u)) u us (All-head (IsHeldItem blocks) (Update u) (map Update us ++ map Junk ts) h)
     (held_before blocks us ts (All-tail (IsHeldItem blocks) (Update u) (map Update us ++ map Junk ts) h))
 
--- the updates of a promise are held where its items are
+-- the updates of a promise are held if its items are
 pub updates_held : (blocks : UpdateId → Option (List ℕ)) (cap : ℕ) (t : Terms) (role : Role) → All (IsHeldItem blocks) (promise cap t role)
     → All (λ u. IsSome (blocks u)) (promised_updates cap t role)
 updates_held blocks cap t role h = held_before blocks (promised_updates cap t role) (range_with_len 0 (promised_junk t role)) h

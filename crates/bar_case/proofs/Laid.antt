@@ -48,7 +48,7 @@ pub items_more : (items : List Item) (k : ℕ) (d : Item) → k < length items �
 items_more items k d below =
     ap items_len (take_more items k d below) ∙ (items_append (take k items) (slice_index_or items k d ∷ []) ∙ omega arith)
 
--- an item more has room where all have
+-- If all items have room, one more item has room.
 pub items_room : (items : List Item) (k : ℕ) (d : Item) → k < length items → items_len (take k items) + item_len (slice_index_or items k d) ≤ items_len items
 items_room items k d below =
     let both : items_len items ≡ items_len (take (k + 1) items) + items_len (drop (k + 1) items) =
@@ -56,7 +56,7 @@ items_room items k d below =
     in
     omega (arith, items_more items k d below)
 
--- ---- an item more
+-- ---- one more item
 
 pub plain_more : (junk : List ℕ) (blocks : UpdateId → Option (List ℕ)) (items : List Item) (k : ℕ) (d : Item) → k < length items
     → plaintext junk blocks (take (k + 1) items) ≡ plaintext junk blocks (take k items) ++ item_bytes junk blocks (slice_index_or items k d)
@@ -65,7 +65,7 @@ plain_more junk blocks items k d below =
     ap (plaintext junk blocks) (take_more items k d below)
     ∙ (flat_map-append (item_bytes junk blocks) (take k items) (item ∷ []) ∙ ap (λ (x : List ℕ). plaintext junk blocks (take k items) ++ x) (append-nil (item_bytes junk blocks item)))
 
--- the cipher of an item follows that of what stands before it
+-- the cipher of an item follows that of the bytes before it
 pub sealed_more : (key plain bytes front : List ℕ) (at end : ℕ) → length plain ≡ at → front ≡ xor_bytes plain (keystream key at) → end ≡ at + length bytes
     → front ++ xor_bytes bytes (drop at (keystream key end)) ≡ xor_bytes (plain ++ bytes) (keystream key end)
 sealed_more key plain bytes front at end long is after =
@@ -107,7 +107,7 @@ promise_len cap terms role =
 held_junk : (blocks : UpdateId → Option (List ℕ)) (ts : List ℕ) → All (IsHeldItem blocks) (map Junk ts)
 held_junk blocks ts = All-map (IsHeldItem blocks) Junk ts (λ k d below. tt)
 
--- the items of a promise are held where its updates are
+-- the items of a promise are held if its updates are
 pub promise_held : (blocks : UpdateId → Option (List ℕ)) (cap : ℕ) (terms : Terms) (role : Role)
     → All (λ u. IsSome (blocks u)) (promised_updates cap terms role) → All (IsHeldItem blocks) (promise cap terms role)
 promise_held blocks cap terms role held =

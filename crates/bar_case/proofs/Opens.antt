@@ -24,7 +24,7 @@ use Rattle.bar_case.specs.Opened.{item_finding, findings, is_broken, is_untold, 
 use Rattle.bar_case.proofs.Stream.{front_stream}
 use Rattle.bar_case.proofs.Xor.{take_xor, drop_xor}
 
--- a part of the plaintext is its part of the cipher under its part of the keystream
+-- a part of the plaintext is the same part of the cipher XOR the same part of the keystream
 pub part_is : (key cipher : List ℕ) (at n : ℕ) → at + n ≤ length cipher
     → xor_bytes (take n (drop at cipher)) (drop at (keystream key (at + n))) ≡ take n (drop at (opened key cipher))
 part_is key cipher at n within =
@@ -107,7 +107,7 @@ opening_push fs f =
     (λ i. opening_by (position_push is_broken fs f i) (position_push is_untold fs f i) (length-append fs (f ∷ []) i))
     ∙ next_is (position is_broken fs) (position is_untold fs) f (length fs)
 
--- the opening once one more item is opened
+-- the opening after one more item is opened
 pub opening_more : (table : Table) (junk : List ℕ) (items : List Item) (k : ℕ) (d : Item) (plain : List ℕ) → k < length items
     → opening_of (findings table junk (take (k + 1) items) plain)
     ≡ next_opening (opening_of (findings table junk (take k items) plain)) (item_finding table junk (slice_index_or items k d) (take (item_len (slice_index_or items k d)) (drop (items_len (take k items)) plain))) k
@@ -135,7 +135,7 @@ blocks_push (x ∷ items) item bytes (b ∷ blocks) d below =
     ap (λ (bs : List (List ℕ)). block_after x (take n bytes) b ∷ bs)
     (rest ∙ ap (λ (z : List ℕ). slice_set done (length items) (block_after item (take (item_len item) z) (slice_index_or done (length items) d))) place)
 
--- the blocks once one more item is opened
+-- the blocks after one more item is opened
 pub blocks_more : (items : List Item) (k : ℕ) (d : Item) (bytes : List ℕ) (blocks : List (List ℕ)) (e : List ℕ) → k < length items → k < length blocks
     → blocks_after (take (k + 1) items) bytes blocks
     ≡ slice_set (blocks_after (take k items) bytes blocks) k
@@ -154,7 +154,7 @@ junk_stays [] bytes blocks = refl
 junk_stays (t ∷ ts) bytes [] = refl
 junk_stays (t ∷ ts) bytes (b ∷ blocks) = ap (λ (bs : List (List ℕ)). b ∷ bs) (junk_stays ts (drop 1280 bytes) blocks)
 
--- the updates' blocks stand at their places, and the others are as they were
+-- the updates' blocks are at their places, and the others are unchanged
 pub promise_blocks : (us : List UpdateId) (ts bytes : List ℕ) (blocks : List (List ℕ)) → length us ≤ length blocks
     → blocks_after (map Update us ++ map Junk ts) bytes blocks ≡ first_chunks 1024 (length us) bytes ++ drop (length us) blocks
 promise_blocks [] ts bytes blocks le = junk_stays ts bytes blocks

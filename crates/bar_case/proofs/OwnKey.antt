@@ -1,4 +1,4 @@
--- What was sealed opens with its own key to what it was, and so shows nothing broken.
+-- A sealed briefcase opens to its plaintext with its own key, so no item of it is broken.
 use Rattle.std.proofs.Common.{◌≡◌, ℕ, ◌+◌, ◌*◌, false, List, [], ◌∷◌, ◌++◌, length, take, drop, map, refl, sym, ap, ◌∙◌, subst, inl, inr, arith, length-append, length-drop}
 use Rattle.std.specs.Prelude.{Option, Some, None, ◌⊎◌, unwrap_or, position}
 use Rattle.std.specs.List.{AllByRecursion, range_with_len, position_or_len}
@@ -23,7 +23,7 @@ use Rattle.bar_case.proofs.Laid.{promise_len}
 use Rattle.bar_case.proofs.Opens.{found_none}
 use Rattle.bar_bytes.proofs.Tests.{bytes_eq-refl}
 
--- an item is held and told, where it is an update
+-- If an item is an update, it is held and matches the table.
 abbrev IsToldItem : Table → (UpdateId → Option (List ℕ)) → Item → Type 0
 IsToldItem table blocks (Update u) = MatchesTable table blocks u
 IsToldItem table blocks (Junk t) = Unit {0}
@@ -82,7 +82,7 @@ told_plain table blocks junk (item ∷ items) h =
 length_sealed_bytes : (key plain : List ℕ) → length (xor_bytes plain (keystream key (length plain))) ≡ length plain
 length_sealed_bytes key plain = length_xor plain (keystream key (length plain)) (sym (length_keystream key (length plain)))
 
--- a cipher opens with its own key to what was sealed
+-- opening a cipher with its own key gives what was sealed
 back : (key plain : List ℕ) → opened key (xor_bytes plain (keystream key (length plain))) ≡ plain
 back key plain = rw (length_sealed_bytes key plain) (xor_twice plain (keystream key (length plain)) (sym (length_keystream key (length plain))))
 

@@ -1,4 +1,4 @@
--- What `fill_bytes` writes from a place of stream 0.
+-- The bytes that `fill_bytes` writes from a place of stream 0 on.
 use Rattle.std.proofs.Common.{◌≡◌, ℕ, zero, suc, ◌+◌, ◌-◌, ◌*◌, ◌/◌, ◌%◌, ◌^◌, ◌<◌, ◌≤◌, List, [], ◌++◌, length, take, drop, refl, sym, ap, ◌∙◌, arith, length-append, add-zero}
 use Rattle.std.specs.Prelude.{min}
 use Rattle.std.specs.Int.{w32, to_le_bytes}
@@ -36,7 +36,7 @@ words_from key place (suc n) below =
     in
     rw (words_from key place n (omega arith), next, more, front) refl
 
--- a generator that was put to a place of stream 0
+-- a generator that is set to a place of stream 0
 pub started : (key : List ℕ) (place : ℕ) (made put : ChaCha) → made ≡ of_seed key → put ≡ record made { word_pos = place % 2 ^ 68 } → place < 2 ^ 64
     → put ≡ record { key = key_of key; stream = 0; word_pos = place }
 started key place made put is moved low =
@@ -56,7 +56,7 @@ filled key bytes place n left s start low fits is =
     let words = ap (λ (p : List ℕ × ChaCha). take n p.0) (words_from key place ((n + 3) / 4) (omega arith)) in
     ap (λ (p : List ℕ × Stream). p.0) is ∙ rw start (words ∙ cut key place n)
 
--- the front of the words is that of more words
+-- a prefix of the words is the keystream of fewer words
 front_words : (key : List ℕ) (n more : ℕ) → take (4 * n) (keystream_words key (n + more)) ≡ keystream_words key n
 unfolding keystream_words
 front_words key n zero = rw add-zero (take_all (4 * n) (keystream_words key n) (omega (arith, length_words key n)))
@@ -65,7 +65,7 @@ front_words key n (suc more) =
     rw place
     (take-append-le (4 * n) (keystream_words key (n + more)) _ (omega (arith, length_words key (n + more))) ∙ front_words key n more)
 
--- the front of the keystream is that of more of it
+-- a prefix of the keystream is the keystream of fewer bytes
 pub front_stream : (key : List ℕ) (n more : ℕ) → take n (keystream key (n + more)) ≡ keystream key n
 unfolding keystream
 front_stream key n more =

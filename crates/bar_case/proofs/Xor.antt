@@ -1,4 +1,4 @@
--- Bytes XOR others.
+-- Bytes XOR other bytes.
 use Rattle.std.proofs.Common.{◌≡◌, ℕ, zero, suc, List, [], ◌∷◌, ◌++◌, length, take, drop, refl, ap, ◌∙◌, arith}
 use Rattle.std.specs.Prelude.{bit_xor}
 use Rattle.std.specs.Int.Bits.{xor_assoc, xor_self, xor_zero_r}
@@ -8,7 +8,7 @@ use Rattle.std.proofs.lemmas.Simd.{length-zip2}
 use Rattle.bar_lanes.proofs.Rows.{zip2-append}
 use Rattle.bar_case.specs.Keystream.{xor_bytes}
 
--- what vectors write
+-- the bytes that vectors write
 pub zip2_is_xor : (xs ys : List ℕ) → zip2 bit_xor xs ys ≡ xor_bytes xs ys
 zip2_is_xor xs ys = refl
 

@@ -28,11 +28,11 @@ promised_len cap terms role = block_size * length (promised_updates cap terms ro
 unfoldable pub junk_key : List ℕ → Exchange → List ℕ
 junk_key id x = tagged (codes "JNK1") id (exchange_bytes x)
 
--- a piece of junk by its number, where the key of the junk is given
+-- a piece of junk by its number, from the key of the junk
 abbrev pub junk_item : List ℕ → ℕ → List ℕ
 junk_item key t = drop (junk_size * t) (keystream key (junk_size * t + junk_size))
 
--- an item's bytes, where the key of the junk and the blocks of held updates are given
+-- an item's bytes, from the key of the junk and the blocks of held updates
 abbrev pub item_bytes : List ℕ → (UpdateId → Option (List ℕ)) → Item → List ℕ
 item_bytes junk blocks (Update u) = unwrap_or (blocks u) []
 item_bytes junk blocks (Junk t) = junk_item junk t

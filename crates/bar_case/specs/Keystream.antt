@@ -13,6 +13,6 @@ keystream_words key (suc n) = keystream_words key n ++ to_le_bytes w32 (word_at 
 unfoldable pub keystream : List ℕ → ℕ → List ℕ
 keystream key n = take n (keystream_words key ((n + 3) / 4))
 
--- bytes XOR others, one by one
+-- bytes XOR other bytes, one by one
 abbrev pub xor_bytes : List ℕ → List ℕ → List ℕ
 xor_bytes xs ys = zip2 bit_xor xs ys

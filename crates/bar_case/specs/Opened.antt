@@ -1,4 +1,4 @@
--- What a key shows of a briefcase.
+-- The result of opening a briefcase with a key.
 use Rattle.std.specs.Prelude.{◌≡◌, ℕ, ◌+◌, Bool, true, false, List, [], ◌∷◌, length, take, drop, position, Option, Some, None, if◌then◌else◌, bytes_eq}
 use Rattle.std.specs.Simd.{first_chunks}
 use Rattle.sha2.specs.Sha256.{sha256}
@@ -23,20 +23,20 @@ use Rattle.bar_case.specs.Items.{item_len, junk_key, junk_item}
 abbrev pub sound_if : Bool → Finding
 sound_if ok = if ok then Sound else Broken
 
--- what a digest says of a block
+-- the finding for a block, by a digest
 abbrev pub digest_finding : Digest → List ℕ → Finding
 digest_finding (Known d) block = sound_if (bytes_eq (sha256 block) d)
 digest_finding PastEnd block = Broken
 digest_finding NoManifest block = Untold
 
--- what a table, and the key of the junk, say of an opened item
+-- the finding for an opened item, by a table and the key of the junk
 abbrev pub item_finding : Table → List ℕ → Item → List ℕ → Finding
 item_finding table junk (Update u) bytes = digest_finding (digest_of table u) bytes
 item_finding table junk (Junk t) bytes = sound_if (bytes_eq bytes (junk_item junk t))
 
 -- ---- all items
 
--- the findings of items that stand one after another in some bytes
+-- the findings for items that follow one another in some bytes
 abbrev pub findings : Table → List ℕ → List Item → List ℕ → List Finding
 findings table junk [] bytes = []
 findings table junk (item ∷ items) bytes =
@@ -57,7 +57,7 @@ opening_by (Some item) untold count = Bad item
 opening_by None (Some item) count = Unknown item
 opening_by None None count = Good count
 
--- the first broken item, else the first untold one, else the number of the items
+-- the first broken item, else the first unknown one, else the number of the items
 abbrev pub opening_of : List Finding → Opening
 opening_of fs = opening_by (position is_broken fs) (position is_untold fs) (length fs)
 
@@ -66,7 +66,7 @@ is_bad (Bad item) = true
 is_bad (Good count) = false
 is_bad (Unknown item) = false
 
--- the opening once the finding of the next item is known, which has this number
+-- the opening after the finding of the next item, which has this number
 abbrev pub next_opening : Opening → Finding → ℕ → Opening
 next_opening (Bad i) f n = Bad i
 next_opening (Unknown i) f n = if is_broken f then Bad n else Unknown i
@@ -74,12 +74,12 @@ next_opening (Good i) Sound n = Good (n + 1)
 next_opening (Good i) Broken n = Bad n
 next_opening (Good i) Untold n = Unknown n
 
--- a block once an item was opened: the item's bytes where it is an update, else what it was
+-- a block after an item is opened: the item's bytes if it is an update, else unchanged
 abbrev pub block_after : Item → List ℕ → List ℕ → List ℕ
 block_after (Update u) bytes block = bytes
 block_after (Junk t) bytes block = block
 
--- the blocks once items were opened that stand one after another in some bytes
+-- the blocks after items are opened that follow one another in some bytes
 abbrev pub blocks_after : List Item → List ℕ → List (List ℕ) → List (List ℕ)
 blocks_after [] bytes blocks = blocks
 blocks_after (item ∷ items) bytes [] = []
@@ -92,7 +92,7 @@ blocks_after (item ∷ items) bytes (block ∷ blocks) =
 abbrev pub opened : List ℕ → List ℕ → List ℕ
 opened key cipher = xor_bytes cipher (keystream key (length cipher))
 
--- what a key shows of the cipher of a side's promise
+-- the result of opening the cipher of a side's promise with a key
 unfoldable pub opening : List ℕ → Exchange → ℕ → Terms → Role → List ℕ → List ℕ → Table → Opening
 opening id x cap terms role cipher key table =
     opening_of (findings table (junk_key id x) (promise cap terms role) (opened key cipher))

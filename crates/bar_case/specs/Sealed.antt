@@ -1,4 +1,4 @@
--- What a side of an exchange seals.
+-- The cipher that a side of an exchange seals.
 use Rattle.std.specs.Prelude.{◌≡◌, ◌⊎◌, ℕ, List, length, Option, Some, IsSome}
 use Rattle.sha2.specs.Sha256.{sha256}
 use Rattle.bar_window.specs.Limits.{block_size}
@@ -13,13 +13,13 @@ use Rattle.bar_terms.specs.Terms.{promise}
 use Rattle.bar_case.specs.Keystream.{keystream, xor_bytes}
 use Rattle.bar_case.specs.Items.{junk_key, plaintext}
 
--- the cipher of a side's promise under a key, where the blocks of held updates are given
+-- the cipher of a side's promise under a key, from the blocks of held updates
 unfoldable pub sealed : List ℕ → Exchange → ℕ → Terms → Role → List ℕ → (UpdateId → Option (List ℕ)) → List ℕ
 sealed id x cap terms role key blocks =
     let plain = plaintext (junk_key id x) blocks (promise cap terms role) in
     xor_bytes plain (keystream key (length plain))
 
--- an item's block is held, where it is an update
+-- If an item is an update, its block is held.
 abbrev pub IsHeldItem : (UpdateId → Option (List ℕ)) → Item → Type 0
 IsHeldItem blocks (Update u) = IsSome (blocks u)
 IsHeldItem blocks (Junk t) = Unit {0}

@@ -1,6 +1,6 @@
-//! What a key shows of a briefcase.
+//! The result of opening a briefcase with a key.
 
-/// What an opened item shows: it is as promised, it is not, or the table lacks the round of the update.
+/// The result for an opened item: it is as promised, it is not, or the table lacks the round of the update.
 #[derive(Clone, Copy, Debug, PartialEq, Eq)]
 pub enum Finding {
     Sound,
@@ -8,10 +8,10 @@ pub enum Finding {
     Untold,
 }
 
-/// What a key shows of a briefcase.
+/// The result of opening a briefcase with a key.
 #[derive(Clone, Copy, Debug, PartialEq, Eq)]
 pub enum Opening {
-    /// Each item is as promised; the number is that of the items.
+    /// Each item is as promised; the number is that of all items.
     Good(u8),
     /// This item is the first that is not as promised.
     Bad { item: u8 },
@@ -23,7 +23,7 @@ impl Opening {
     ghost use Rattle.std.specs.Prelude.{◌≡◌, ◌<◌};
     ghost use Rattle.bar_case.specs.Opened.{next_opening};
 
-    /// The opening once the finding of the next item is known, which has this number.
+    /// The opening after the finding of the next item, which has this number.
     pub(crate) fn after(self, finding: Finding, item: u8) -> Opening
         requires { item < 255 }
         ensures { result ≡ next_opening self finding item }

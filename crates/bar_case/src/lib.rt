@@ -1,4 +1,4 @@
-//! Briefcases: what a side of an exchange promises, sealed under a key, and what a key shows of it.
+//! Briefcases: the items that a side of an exchange promises, sealed under a key, and the result of opening them with a key.
 #![tactic(auto)]
 
 mod cipher;

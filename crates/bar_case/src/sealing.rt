@@ -3,7 +3,7 @@
 ghost use Rattle.std.specs.Prelude.{◌≡◌, ◌+◌, ◌%◌, ◌≤◌, ◌++◌, true, length, take, drop, All, IsSome};
 ghost use Rattle.bar_window.specs.Limits.{largest_cipher, most_items};
 ghost use Rattle.bar_window.specs.Terms.{plain_terms};
-ghost use Rattle.bar_terms.specs.Windows.{AreAligned};
+ghost use Rattle.bar_terms.specs.Code.Windows.{AreAligned};
 ghost use Rattle.bar_terms.specs.Terms.{can_promise, promised_updates};
 ghost use Rattle.bar_case.specs.Keystream.{keystream, xor_bytes};
 ghost use Rattle.bar_case.specs.Items.{item_len, items_len, item_bytes, plaintext, promised_len};
@@ -14,7 +14,7 @@ use crate::items::{junk_item, junk_key};
 use bar_terms::{Item, promise};
 use bar_window::{Blocks, Exchange, Role, Terms};
 
-/// Seals the bytes of an item at a place, and answers the place after them.
+/// Seals the bytes of an item at an offset, and returns the offset after them.
 fn seal_bytes(key: &[u8; 32], at: usize, bytes: &[u8], out: &mut [u8]) -> usize
     requires word { at % 4 ≡ 0 }
     requires room { at + length bytes.now ≤ length out.old }
@@ -27,7 +27,7 @@ fn seal_bytes(key: &[u8; 32], at: usize, bytes: &[u8], out: &mut [u8]) -> usize
     end
 }
 
-/// Seals an item at a place, and answers the place after it.
+/// Seals an item at an offset, and returns the offset after it.
 fn seal_item<B: Blocks>(
     item: &Item,
     junk: &[u8; 32],
@@ -51,7 +51,7 @@ fn seal_item<B: Blocks>(
     }
 }
 
-/// Seals items, one after another from the front, and answers their length.
+/// Seals items, one after another from the beginning, and returns their length.
 fn seal_items<B: Blocks>(
     items: &[Item],
     junk: &[u8; 32],
@@ -73,10 +73,11 @@ fn seal_items<B: Blocks>(
     at
 }
 
-/// Seals what a side of an exchange promises by its terms, writes the cipher to the front of `out`, and answers its length in bytes.
+/// Seals the items that a side of an exchange promises by its terms, writes the cipher to the beginning of `out`, and returns its length in
+/// bytes.
 ///
-/// The plaintext is the promised items in order: the block of each update, 1,024 bytes, and 1,280 bytes of each piece of junk. Piece t of an
-/// exchange has the bytes from 1,280 t on of the ChaCha20 keystream (RFC 8439, 2.3) under the tagged hash of the exchange's name. The
+/// The plaintext is the promised items in order: the block of each update, 1,024 bytes, and 1,280 bytes of each piece of junk. Piece t of
+/// an exchange has the bytes from 1,280 t on of the ChaCha20 keystream (RFC 8439, 2.3) under the tagged hash of the exchange's name. The
 /// cipher is the plaintext XOR the keystream under the key.
 pub fn seal<B: Blocks>(
     id: &[u8; 8],

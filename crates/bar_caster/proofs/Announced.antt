@@ -1,4 +1,4 @@
--- The messages of lists that are joined to the same bytes.
+-- Lists whose concatenations are equal give the same messages.
 use Rattle.std.proofs.Common.{◌≡◌, ℕ, List, [], ◌∷◌, length}
 use Rattle.std.specs.List.{concat, flat_map}
 use Rattle.bar_bytes.specs.Bytes.{u8_bytes, u16_bytes, u32_bytes}

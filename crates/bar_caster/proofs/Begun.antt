@@ -1,4 +1,4 @@
--- What a tick that may begin a round leaves.
+-- The memory after a tick that may begin a round.
 use Rattle.std.proofs.Common.{◌≡◌, ◌∙◌, ℕ, ◌-◌, ◌*◌, ◌/◌, ◌<◌, ◌≤◌, ◌==◌, ◌++◌, Bool, true, List, [], ◌∷◌, Option, Some, None, length}
 use Rattle.std.proofs.Common.{option_map, if◌then◌else◌, map, refl, sym, ap, arith, inl, inr}
 use Rattle.std.specs.List.{concat, AllByRecursion}
@@ -7,7 +7,7 @@ use Rattle.std.proofs.lemmas.Bool.{cases_eq, cases_lt, eq-eqb, ne_eqb}
 use Rattle.std.proofs.lemmas.List.{length-map}
 use Rattle.sha2.specs.Sha256.{sha256}
 use Rattle.sha2.proofs.Facts256.{length-sha256}
-use Rattle.bar_bytes.specs.Rooms.{kept_in}
+use Rattle.bar_bytes.specs.Code.Rooms.{kept_in}
 use Rattle.bar_terms.specs.Table.{Lists, digests_of}
 use Rattle.bar_terms.proofs.Equal.{chunks_of}
 use Rattle.bar_wire.specs.Datagram.{Body, Datagram}
@@ -22,16 +22,16 @@ use Rattle.bar_rules.specs.Secrets.{signature_of}
 use Rattle.bar_rules.specs.Values.{datagram_bytes, message_bytes}
 use Rattle.bar_laws.specs.Broadcasting.{SignsOnce, manifest_of}
 use Rattle.bar_caster.specs.declared.memory.Memory.{Memory}
-use Rattle.bar_caster.specs.Memory.{member_of, said_of}
-use Rattle.bar_caster.specs.Ticking.{begins_round, begun_round}
+use Rattle.bar_caster.specs.Code.Memory.{member_of, said_of}
+use Rattle.bar_caster.specs.Code.Ticking.{begins_round, begun_round}
 use Rattle.bar_caster.proofs.Grown.{not_said_yet, said_first, said_other, same_said, table_begun}
 use Rattle.bar_caster.proofs.Pieces.{blocks-counted, count_from}
 
--- the notice of this round, where one was signed, is the one that is kept
+-- if a notice of this round was signed, it is the one that is kept
 abbrev pub HasNotice : Memory → Log → Log → Type 0
 HasNotice m now log = (d : Datagram) → said_of kinds.Evict (round_now now) log ≡ Some d → m.notice.kept ≡ Some (datagram_bytes m.session d)
 
--- where the round stays, so does its notice; and a new round has none yet
+-- if the round is the same, so is its notice; a new round has no notice yet
 notice_later : (m : Memory) (stream : List ℕ) (now log : Log) → SignsOnce (member_of m) stream log → ticks log ≤ ticks now
     → HasNotice m log log → HasNotice m now log
 notice_later m stream now log signs later h d is = elim (cases_lt (round_now log) (round_now now)) [
@@ -62,7 +62,7 @@ manifest_few s stream round =
     let few : count ≤ s.shape.per_round = omega arith in
     omega (arith, length-map (round_blocks s stream round) sha256, blocks-counted s stream round, few)
 
--- the digests in the list's bytes are those of the list
+-- the digests decoded from the list's bytes are those of the list
 pub manifest_back : (s : Session) (stream : List ℕ) (round : ℕ) (bytes : List ℕ)
     → bytes ≡ concat (manifest_list s stream round)
     → first_chunks 32 (length bytes / 32) bytes ≡ manifest_list s stream round
@@ -72,7 +72,7 @@ manifest_back s stream round bytes is =
     let parts : length bytes / 32 ≡ length list = omega (arith, long) in
     (λ i. first_chunks 32 (parts i) (is i)) ∙ chunks_of list (digests_long s stream round)
 
--- a message with the signature behind it is the datagram that the broadcaster signs
+-- a message followed by the signature is the datagram that the broadcaster signs
 pub signed_bytes : (me : Member) (signed : ℕ → List ℕ → List ℕ) (leaf : ℕ) (body : Body) (message written : List ℕ)
     → ((leaf : ℕ) (message : List ℕ) → signed leaf message ≡ signature_of me leaf message)
     → message ≡ message_bytes me.session (caster_message body) → written ≡ message ++ signed leaf message
@@ -82,7 +82,7 @@ signed_bytes me signed leaf body message written signs is behind =
     ∙ ap (λ (signature : List ℕ). message_bytes me.session (caster_message body) ++ signature)
     (signs leaf (message_bytes me.session (caster_message body)))
 
--- the list that a table gets is that of the round that begins
+-- the list that is added to the table is that of the round that begins
 pub table_joins : (me : Member) (stream : List ℕ) (log : Log) → begins_round me.session (ticks log) ≡ true
     → (lists : Lists) (round : ℕ) (bytes : List ℕ) → round ≡ round_now (Ticked ∷ log)
     → first_chunks 32 (length bytes / 32) bytes ≡ manifest_list me.session stream round
@@ -102,11 +102,11 @@ table_joins me stream log begins lists round bytes now is has r = elim (cases_eq
       ∙ sym (table_begun me stream log begins r)
 ]
   where
-    -- the list by whether it is that of the round that begins
+    -- the list of a round, depending on whether the round is the one that begins
     of_test : Bool → Option (List (List ℕ))
     of_test b = if b then Some (manifest_list me.session stream r) else caster_table me stream log r
 
--- the round that begins has its manifest, and the others have what they had
+-- the round that begins has its manifest, and the others are unchanged
 pub manifests_begun : (m : Memory) (stream : List ℕ) (log : Log) → SignsOnce (member_of m) stream log
     → (round : ℕ) (bytes : List ℕ) → round ≡ round_now (Ticked ∷ log) → round_now log < round
     → bytes ≡ datagram_bytes m.session (manifest_of (member_of m) stream round)
@@ -140,7 +140,7 @@ manifests_begun m stream log signs round bytes now later is has r = elim (cases_
     this : Datagram
     this = manifest_of me stream (round_now (Ticked ∷ log))
 
--- a manifest is no notice
+-- a manifest isn't a notice
 pub notice_begun : (m : Memory) (stream : List ℕ) (log : Log) → SignsOnce (member_of m) stream log
     → HasNotice m log log → HasNotice m (begun_round (member_of m) stream log) (begun_round (member_of m) stream log)
 notice_begun m stream log signs h d is =

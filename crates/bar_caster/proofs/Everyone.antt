@@ -1,11 +1,11 @@
--- Of every number, a peer's or not: its room holds the evidence that the log keeps.
+-- For every number, of a peer or not, its room holds the evidence that the log keeps.
 use Rattle.std.proofs.Common.{◌≡◌, ◌∙◌, ℕ, ◌<◌, ◌≤◌, List, Option, Some, None, is_some, refl, sym, ap, subst, arith, inl, inr}
 use Rattle.std.specs.Prelude.{◌&&◌, Contains, nat_le, option_copied, option_map}
 use Rattle.std.specs.Borrow.{Bor}
 use Rattle.std.proofs.lemmas.Bool.{and_parts, cases_Bool}
 use Rattle.std.proofs.lemmas.Bool.Decides.{nat_tests}
 use Rattle.std.proofs.lemmas.List.{map-id}
-use Rattle.bar_bytes.specs.Rooms.{kept_in}
+use Rattle.bar_bytes.specs.Code.Rooms.{kept_in}
 use Rattle.bar_window.proofs.Ranges.{in_is_image}
 use Rattle.bar_wire.specs.Evidence.{evidence_bytes}
 use Rattle.bar_wire.specs.Grammar.{IsPeer}
@@ -16,13 +16,13 @@ use Rattle.bar_rules.specs.Peer.Log.{Log, kept}
 use Rattle.bar_wire.specs.Inputs.{Input}
 use Rattle.bar_laws.specs.Broadcasting.{EvictsExactly}
 use Rattle.bar_caster.specs.declared.evictions.Evictions.{Evictions}
-use Rattle.bar_caster.specs.Evictions.{AreOfLog}
+use Rattle.bar_caster.specs.Code.Evictions.{AreOfLog}
 
 pub uncopied : {X : Type 0} (o : Option (Bor X)) → option_copied o ≡ None → o ≡ None
 uncopied None e = refl
 uncopied (Some v) e = cc
 
--- whoever is evicted is a peer
+-- every evicted party is a peer
 evicted_peer : (s : Session) (log : Log) (party : ℕ) → Contains (evicted s log) party → IsPeer s.shape party
 evicted_peer s log party has =
     let image = in_is_image (λ q. is_some (kept log q)) (λ (q : ℕ). q) 1 s.shape.peers party
@@ -33,7 +33,7 @@ module _ (me : Member) (stream : List ℕ) (is : IsBroadcaster me) (law : Evicts
   abbrev pub log : Log
   log = caster_log_after me stream inputs
 
-  -- evidence is kept against peers alone, and against them it evicts
+  -- evidence is kept only against peers, and evicts them
   kept_evicts : (party : ℕ) (evidence : List (List ℕ)) → kept log party ≡ Some evidence → Contains (evicted me.session log) party
   kept_evicts party evidence has =
       let exactly = law me stream is inputs in

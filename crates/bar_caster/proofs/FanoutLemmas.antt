@@ -1,9 +1,9 @@
--- The ranks of the peers, and how many stand before one of them.
+-- The ranks of the peers, and how many precede one of them.
 use Rattle.bar_window.specs.declared.update.UpdateId.{UpdateId}
 use Rattle.bar_rules.specs.Member.{Member}
 use Rattle.bar_rules.specs.Broadcaster.Stream.{rank_of, ranks_before}
 use Rattle.bar_window.proofs.Ranges.{range_more}
-use Rattle.bar_caster.specs.Fanout.{AreRanksOf, count_before}
+use Rattle.bar_caster.specs.Code.Fanout.{AreRanksOf, count_before}
 use Rattle.std.proofs.Common.{◌≡◌, ℕ, Bool, true, false, List, [], ◌∷◌, ◌++◌, ◌+◌, ◌-◌, ◌<◌, ◌≤◌, cond, refl, sym, ap, ◌∙◌, arith}
 use Rattle.std.proofs.Common.{length, map, take, get_or, length-append}
 use Rattle.std.specs.Prelude.{filter, slice_set}
@@ -47,7 +47,7 @@ counted-one me u i p =
 pub peers_counted : (me : Member) (u : UpdateId) (ranks : List (List ℕ)) → AreRanksOf me u ranks → length ranks ≡ me.session.shape.peers
 peers_counted me u ranks are = ap length are ∙ length-map-range_with_len (rank_of me u) 1 me.session.shape.peers
 
--- the rank that stands in a room
+-- the rank at an index
 rank-at :
     (me : Member) (u : UpdateId) (ranks : List (List ℕ)) (i p : ℕ)
     → AreRanksOf me u ranks → i < length ranks → i + 1 ≡ p → get_or ranks i [] ≡ rank_of me u p
@@ -56,7 +56,7 @@ rank-at me u ranks i p are low e =
     ap (λ z. get_or z i []) are
     ∙ get_or-map-range_with_len (rank_of me u) 1 me.session.shape.peers i p [] within (omega (arith, e))
 
--- one peer more, where the code has tested it by the ranks
+-- the count with one more peer, which the code compared by the ranks
 pub counted_more :
     (me : Member) (u : UpdateId) (ranks : List (List ℕ)) (i p place : ℕ) (stands : Bool)
     → AreRanksOf me u ranks → i < length ranks → 1 ≤ p → p ≤ length ranks → place ≡ p

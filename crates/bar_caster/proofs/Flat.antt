@@ -1,4 +1,4 @@
--- What a broadcaster sends at a tick as lists behind what was sent so far, and the orders for these.
+-- The lists that a broadcaster appends to what it sent at a tick, and the orders for these.
 use Rattle.std.proofs.Common.{◌≡◌, ◌∙◌, ℕ, suc, ◌+◌, ◌++◌, List, [], ◌∷◌, length, refl, sym, ap, append_assoc, arith}
 use Rattle.std.specs.Prelude.{map, filter, Some, option_map, slice_get}
 use Rattle.std.proofs.lemmas.List.{map-append}
@@ -13,8 +13,8 @@ pub use Rattle.bar_laws.proofs.Broadcasts.{Sends, all-flat, no-more, one-more, t
 use Rattle.bar_caster.specs.declared.item.Item.{Item}
 use Rattle.bar_caster.specs.declared.item.Item.TheVariants as items
 use Rattle.bar_caster.specs.declared.order.Order.{Order}
-use Rattle.bar_caster.specs.Orders.{AreFor, block_to, datagram_now, order_now, orders_to}
-use Rattle.bar_caster.specs.Ticking.{block_orders}
+use Rattle.bar_caster.specs.Code.Orders.{AreFor, block_to, datagram_now, order_now, orders_to}
+use Rattle.bar_caster.specs.Code.Ticking.{block_orders}
 use Rattle.bar_caster.proofs.Pushed.{orders_of_block}
 
 both : (out : Outcome Log) (first second : Sends) → with_sends (with_sends out first) second ≡ with_sends out (first ++ second)
@@ -31,11 +31,11 @@ block-flat out [] u block = no-more out
 block-flat out (p ∷ ps) u block =
     block-flat (sending out p (block_to p u block)) ps u block ∙ one-more out p (block_to p u block) (block_to_each ps u block)
 
--- the fan-out of an update, without those that are evicted
+-- the peers in the fan-out of an update that aren't evicted
 abbrev receivers : Member → Log → UpdateId → List ℕ
 receivers me log u = filter (is_in_fanout me u) (served me.session log)
 
--- the blocks of a round from an index on
+-- the blocks of a round, starting with an index
 abbrev pub blocks_from : Member → Log → ℕ → ℕ → List (List ℕ) → Sends
 blocks_from me log round index [] = []
 blocks_from me log round index (block ∷ blocks) =
@@ -59,7 +59,7 @@ pub for-both : (me : Member) (stream : List ℕ) (log : Log) (one two : List Ord
 for-both me stream log one two first second a b =
     map-append (order_now me stream log) one two ∙ (λ i. a i ++ b i) ∙ sym (map-append (λ send. Some send) first second)
 
--- an item that is a datagram for each of some peers
+-- the orders of an item for some peers, if each gets its datagram
 pub for-each : (me : Member) (stream : List ℕ) (log : Log) (item : Item) (f : ℕ → Datagram) (ps : List ℕ)
     → ((p : ℕ) → datagram_now me stream log p item ≡ Some (f p)) → AreFor me stream log (orders_to item ps) (map (λ p. (p, f p)) ps)
 for-each me stream log item f [] is = refl

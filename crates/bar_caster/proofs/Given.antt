@@ -1,4 +1,4 @@
--- What an order of the broadcaster gives out.
+-- The datagrams that a broadcaster gives out for orders.
 use Rattle.std.proofs.Common.{◌≡◌, ◌∙◌, ℕ, ◌+◌, ◌<◌, ◌++◌, List, [], ◌∷◌, Option, Some, None, length, refl, sym, ap, length-append, arith}
 use Rattle.std.specs.Prelude.{map, option_map, slice_get}
 use Rattle.std.proofs.lemmas.List.{append-nil}
@@ -10,23 +10,23 @@ use Rattle.bar_wire.specs.declared.shape.Shape.{Shape}
 use Rattle.bar_wire.specs.Datagram.{Datagram, Message, Block}
 use Rattle.bar_wire.specs.Grammar as grammar
 use Rattle.bar_wire.proofs.Written.{message_len}
-use Rattle.bar_rules.specs.Giving.{IsGiven}
+use Rattle.bar_rules.specs.Code.Giving.{IsGiven}
 use Rattle.bar_rules.specs.Member.{Session, Member}
 use Rattle.bar_rules.specs.Peer.Log.{Log}
 use Rattle.bar_rules.specs.Values.{datagram_bytes, message_bytes, unsigned}
 use Rattle.bar_caster.specs.declared.order.Order.{Order}
-use Rattle.bar_caster.specs.Orders.{AreFor, datagram_now, order_now}
+use Rattle.bar_caster.specs.Code.Orders.{AreFor, datagram_now, order_now}
 
--- the value of an index that is within the list
+-- an index that has a value is within the list
 pub one_within : {X Y : Type 0} (f : X → Y) (xs : List X) (index : ℕ) (y : Y) → option_map f (slice_get xs index) ≡ Some y
     → index < length xs
 one_within f xs index y made = map_some f (slice_get xs index) y made (λ x is same. slice_get_within xs index x is)
 
--- a datagram with no signature is spelled as its message
+-- the encoding of an unsigned datagram is that of its message
 pub unsigned_bytes : (s : Session) (m : Message) → datagram_bytes s (unsigned m) ≡ message_bytes s m
 unsigned_bytes s m = append-nil (message_bytes s m)
 
--- a block has a header, its update and its bytes
+-- the length of a BLOCK is that of the header, the update and the block
 pub block_len : (s : Shape) (peer round index : ℕ) (block : List ℕ)
     → length (grammar.message_bytes s (record { from = 0; to = peer; body = Block (record { round = round; index = index }) block }))
     ≡ 21 + length block
@@ -41,14 +41,14 @@ block_len s peer round index block =
 
 -- ---- the next one
 
--- no orders are left where nothing is to be sent
+-- if nothing is to be sent, no orders are left
 pub none_left : (me : Member) (stream : List ℕ) (log : Log) (left new : List Order) (sends : List (ℕ × Datagram)) → left ≡ [] → new ≡ []
     → AreFor me stream log left sends → (sends ≡ []) × AreFor me stream log new []
 none_left me stream log left new [] none empty are = (refl, ap (map (order_now me stream log)) empty)
 none_left me stream log left new (send ∷ sends) none empty are =
     let is : [] ≡ Some send ∷ map Some sends = sym (ap (map (order_now me stream log)) none) ∙ are in absurd (cc)
 
--- An order's datagram is the first that is to be sent, and the others are left.
+-- The order's datagram is the first that is to be sent, and the others are left.
 pub record IsNext (me : Member) (stream : List ℕ) (log : Log) (order : Order) (left : List Order) (sends : List (ℕ × Datagram))
     : Type 0 where
   pub given : Datagram
@@ -76,7 +76,7 @@ next_of me stream log order old left (send ∷ sends) first are =
       others = others;
     })
 
--- a datagram that is to be given is given
+-- if a datagram is to be given, the result is a length
 pub never_none : (s : Session) (d : Datagram) (result : Option ℕ) (buf : List ℕ) → IsGiven s d result buf
     → ((n : ℕ) → result ≡ Some n → ⊥) → ⊥
 never_none s d None buf given none = given

@@ -1,4 +1,4 @@
--- What an entry changes in a log of the broadcaster: what was said, what is kept, and the table.
+-- How an entry changes a log of the broadcaster: what was said, what is kept, and the table.
 use Rattle.std.proofs.Common.{◌≡◌, ◌≢◌, ◌∙◌, ℕ, ◌+◌, ◌<◌, ◌≤◌, ◌==◌, Bool, true, false, List, [], ◌∷◌, Option, Some, None, is_some, is_none}
 use Rattle.std.proofs.Common.{refl, sym, ap, subst, arith, inl, inr}
 use Rattle.std.specs.Prelude.{◌&&◌, Contains, filter, nat_le, option_map, if◌then◌else◌}
@@ -20,21 +20,21 @@ use Rattle.bar_rules.specs.Peer.Log.{Log, Entry, Ticked, Heard, Said, Kept, firs
 use Rattle.bar_rules.specs.Peer.Log.{round_now, said_in, ticks}
 use Rattle.bar_laws.specs.Broadcasting.{SignsOnce}
 use Rattle.bar_caster.specs.declared.evictions.Evictions.{Evictions}
-use Rattle.bar_caster.specs.Evictions.{AreOfLog}
-use Rattle.bar_caster.specs.Ticking.{begins_round, begun_round}
+use Rattle.bar_caster.specs.Code.Evictions.{AreOfLog}
+use Rattle.bar_caster.specs.Code.Ticking.{begins_round, begun_round}
 use Rattle.bar_bytes.proofs.Options.{or-none}
 
 -- ---- what was said
 
--- an entry that is no signed datagram leaves what was said
+-- an entry that isn't a signed datagram doesn't change what was said
 pub same_said : (p : Message → Bool) (x : Entry) (log : Log) → said_in x ≡ None → first_said p (x ∷ log) ≡ first_said p log
 same_said p x log none = (λ i. option_or (first_said p log) (if_passes p (none i))) ∙ or-none (first_said p log)
 
--- so does a datagram that does not pass
+-- nor does a datagram that doesn't pass the test
 pub said_other : (p : Message → Bool) (d : Datagram) (log : Log) → p d.message ≡ false → first_said p (Said d ∷ log) ≡ first_said p log
 said_other p d log other = (λ i. option_or (first_said p log) (then_some (other i) d)) ∙ or-none (first_said p log)
 
--- where none was said before, the datagram is the first
+-- if none was said before, the datagram is the first
 pub said_first : (p : Message → Bool) (d : Datagram) (log : Log) → first_said p log ≡ None → p d.message ≡ true
     → first_said p (Said d ∷ log) ≡ Some d
 said_first p d log none passes = λ i. option_or (none i) (then_some (passes i) d)
@@ -54,7 +54,7 @@ now_there p log (Said f) d is = one (p f.message) refl is
         ((0, omega arith, ap Said same), subst (λ e. p e.message ≡ true) same passes)
     one false passes is = absurd (cc)
 
--- what was said first stands in the log, and passes
+-- the log contains the first datagram that passes, and it passes
 pub said_there : (p : Message → Bool) (log : Log) (d : Datagram) → first_said p log ≡ Some d → Contains log (Said d) × (p d.message ≡ true)
 said_there p [] d is = absurd (cc)
 said_there p (e ∷ log) d is = by (first_said p log) (now_there p log e d) (λ was. earlier (said_there p log d was)) is
@@ -67,7 +67,7 @@ said_there p (e ∷ log) d is = by (first_said p log) (now_there p log e d) (λ 
     by None now before is = now is
     by (Some f) now before is = before is
 
--- of a round that has not begun nothing was said
+-- nothing was said of a round that hasn't begun
 pub not_said_yet : (me : Member) (stream : List ℕ) (log : Log) (kind : Kind) (round : ℕ) → SignsOnce me stream log → round_now log < round
     → first_said (has_kind_and_round kind round) log ≡ None
 not_said_yet me stream log kind round h later = go (first_said (has_kind_and_round kind round) log) refl
@@ -83,7 +83,7 @@ not_said_yet me stream log kind round h later = go (first_said (has_kind_and_rou
 
 -- ---- what is kept
 
--- an entry that keeps no evidence leaves what is kept
+-- an entry without evidence doesn't change what is kept
 pub same_kept : (x : Entry) (log : Log) → ((q : ℕ) → kept_in q x ≡ None) → (q : ℕ) → kept (x ∷ log) q ≡ kept log q
 same_kept x log none q = (λ i. option_or (kept log q) (none q i)) ∙ or-none (kept log q)
 
@@ -104,7 +104,7 @@ same_evictions s e x log none h = record {
 
 -- ---- the table
 
--- where the round stays, the lists stay
+-- if the round is the same, so are the lists
 pub same_table : (me : Member) (stream : List ℕ) (more log : Log) → round_now more ≡ round_now log → (round : ℕ)
     → caster_table me stream more round ≡ caster_table me stream log round
 same_table me stream more log same round =
@@ -142,7 +142,7 @@ table_ticked me stream log begins round = elim (and_cases _ _ begins) [
         let low : round ≤ me.session.shape.rounds = leb-true _ _ p.1 in
         and_from _ _ (le-leb _ _ (omega arith)) p.1)
 
--- the round that a tick begins is the next one
+-- the round that begins is the next one
 pub next_round : (s : Session) (log : Log) → begins_round s (ticks log) ≡ true → round_now (Ticked ∷ log) ≡ round_now log + 1
 next_round s log begins =
     let first : slot_after (ticks log + 1) ≡ 0 = eqb-true _ _ (and_parts _ _ begins).0 in
@@ -160,7 +160,7 @@ no_list_yet me stream log round later =
     and_right _ _ (and_left _ _ (lt-leb round (round_now log) later)) in
     λ i. then_some (late i) (manifest_list me.session stream round)
 
--- a tick that begins a round of the session adds its list
+-- the tick that begins a round of the session adds the round's list
 pub table_begun : (me : Member) (stream : List ℕ) (log : Log) → begins_round me.session (ticks log) ≡ true → (round : ℕ)
     → caster_table me stream (begun_round me stream log) round
     ≡ (if round == round_now (Ticked ∷ log) then Some (manifest_list me.session stream round) else caster_table me stream log round)

@@ -1,4 +1,4 @@
--- What the memory of a broadcaster holds after evidence was judged.
+-- The memory of a broadcaster after it judged evidence.
 use Rattle.std.proofs.Common.{◌≡◌, ◌≤◌, ◌∙◌, ℕ, true, false, List, [], ◌∷◌, ◌++◌, Option, Some, None, is_some, length, length-append, drop, refl}
 use Rattle.std.proofs.Common.{sym, ap, subst, arith, if◌then◌else◌}
 use Rattle.std.specs.Prelude.{◌&&◌, is_none, nat_le, option_map}
@@ -7,7 +7,7 @@ use Rattle.std.specs.List.{concat}
 use Rattle.std.specs.Bool.{then_some}
 use Rattle.std.proofs.lemmas.List.{append-nil, drop_at, nil_from_length}
 use Rattle.bar_bytes.specs.declared.rooms.Rooms.{Rooms}
-use Rattle.bar_bytes.specs.Rooms.{kept_in}
+use Rattle.bar_bytes.specs.Code.Rooms.{kept_in}
 use Rattle.bar_bytes.proofs.Options.{or-none}
 use Rattle.bar_terms.specs.declared.table.Table.{Table}
 use Rattle.bar_terms.specs.Table.{digests_of}
@@ -16,7 +16,7 @@ use Rattle.bar_wire.specs.Datagram.{Evidence}
 use Rattle.bar_wire.specs.Evidence.{evidence_bytes, IsEvidence}
 use Rattle.bar_wire.specs.Grammar.{AreDatagramsInRange, SpellsDatagram, evidence_pieces, start}
 use Rattle.bar_wire.specs.Places.{entries}
-use Rattle.bar_wire.specs.Views.{IsView, plain, signature_bytes}
+use Rattle.bar_wire.specs.Code.Views.{IsView, plain, signature_bytes}
 use Rattle.bar_wire.specs.declared.shape.Shape.{Shape}
 use Rattle.bar_wire.specs.declared.view.Body.{Body as RawBody}
 use Rattle.bar_wire.specs.declared.view.Body.TheVariants as raw
@@ -34,15 +34,15 @@ use Rattle.bar_rules.specs.Values.{datagram_bytes}
 use Rattle.bar_judge.specs.declared.fault.Fault.{Fault as CodeFault}
 use Rattle.bar_judge.specs.declared.verdicts.Verdict.{Verdict as CodeVerdict}
 use Rattle.bar_judge.specs.declared.verdicts.Verdict.TheVariants as verdicts
-use Rattle.bar_judge.specs.Verdicts.{plain_verdict}
+use Rattle.bar_judge.specs.Code.Verdicts.{plain_verdict}
 use Rattle.bar_laws.specs.Broadcasting.{ShownIsShort}
 use Rattle.bar_laws.specs.Ignoring.{evicts, is_news}
 use Rattle.bar_caster.specs.declared.evictions.Evictions.{Evictions}
 use Rattle.bar_caster.specs.declared.memory.Memory.{Memory}
-use Rattle.bar_caster.specs.Evictions.{AreOfLog}
-use Rattle.bar_caster.specs.Memory.{Represents, IsOfTheSame, member_of, said_of, stream_of}
+use Rattle.bar_caster.specs.Code.Evictions.{AreOfLog}
+use Rattle.bar_caster.specs.Code.Memory.{Represents, IsOfTheSame, member_of, said_of, stream_of}
 
--- A memory has what another has, but for the evictions.
+-- The memories differ only in their evictions.
 pub record HasOtherEvictions (m n : Memory) : Type 0 where
   pub same : IsOfTheSame m n
   pub ticks : n.ticks ≡ m.ticks
@@ -50,11 +50,11 @@ pub record HasOtherEvictions (m n : Memory) : Type 0 where
   pub manifests : n.manifests ≡ m.manifests
   pub notice : n.notice ≡ m.notice
 
--- the broadcaster's table by the round that it is now
+-- the broadcaster's table in round `now`
 abbrev table_at : Session → List ℕ → ℕ → tables.Table
 table_at s stream now r = then_some (nat_le 1 r && (nat_le r now && nat_le r s.shape.rounds)) (manifest_list s stream r)
 
--- A memory tells as much of a log at the same time, in which the same was said, where its evictions are those of that log.
+-- If two logs have the same time and the same said datagrams, and the evictions are those of the second, the memory represents the second.
 pub tells_with : (log new : Log) (m n : Memory) → HasOtherEvictions m n → ticks new ≡ ticks log
     → ((kind : Kind) (round : ℕ) → said_of kind round new ≡ said_of kind round log) → AreOfLog m.session n.evictions new → Represents log m
     → Represents new n
@@ -80,12 +80,12 @@ tells_kept : (log : Log) (m n : Memory) (party : ℕ) (evidence : List (List ℕ
 tells_kept log m n party evidence h tells evictions =
     tells_with log (Kept party evidence ∷ log) m n h (omega arith) (λ kind round. or-none (said_of kind round log)) evictions tells
 
--- the same evictions are those of the same log
+-- if the evictions are unchanged, the memory represents the same log
 pub tells_still : (log : Log) (m n : Memory) → HasOtherEvictions m n → n.evictions ≡ m.evictions → Represents log m → Represents log n
 tells_still log m n h same tells =
     tells_with log log m n h refl (λ kind round. refl) (subst (λ (e : Evictions). AreOfLog m.session e log) (sym same) tells.evictions) tells
 
--- What is done to the evictions where evidence is shown against a party.
+-- How the evictions change if evidence shows a fault of a party.
 pub record Evicts (log : Log) (m n : Memory) (party : ℕ) (evidence : List (List ℕ)) : Type 0 where
   pub kept_now : AreOfLog m.session m.evictions log → kept log party ≡ None → AreDatagramsInRange evidence
       → length (evidence_bytes evidence) ≤ m.evictions.evidence.size → AreOfLog m.session n.evictions (Kept party evidence ∷ log)
@@ -99,7 +99,7 @@ evicted_by log m n party evidence h tells evicts range short None is =
 evicted_by log m n party evidence h tells evicts range short (Some old) is =
     tells_still log m n h (evicts.again tells.evictions (ap is_some is)) tells
 
--- the verdict under the table of the log
+-- the verdict under the memory's table is the one under the log's table
 told_verdict : (log : Log) (m : Memory) (evidence : List (List ℕ)) → Represents log m
     → verdict m.session (digests_of m.table.lists) evidence ≡ verdict m.session (caster_table (member_of m) (stream_of m) log) evidence
 told_verdict log m evidence tells = λ i. verdict m.session (λ r. tells.table r i) evidence
@@ -138,7 +138,7 @@ some_there : (o : Option (List (List ℕ))) → is_none o ≡ false → is_some 
 some_there None e = absurd (cc)
 some_there (Some evidence) e = refl
 
--- evidence that is shown and no news is against a party that is evicted
+-- if evidence shows a fault but isn't news, its party is evicted already
 pub evicted_before : (log : Log) (m : Memory) (party : ℕ) (fault : Fault) (evidence : List (List ℕ)) → Represents log m
     → Shown party fault ≡ verdict m.session (digests_of m.table.lists) evidence
     → is_news (member_of m) (stream_of m) log (Evidence evidence) ≡ false → is_some (kept log party) ≡ true
@@ -147,7 +147,7 @@ evicted_before log m party fault evidence tells is quiet =
 
 -- ---- evidence in a datagram
 
--- the body of an EVIDENCE stands behind the header
+-- the body of an EVIDENCE follows the header
 pub evidence_behind : (s : Shape) (bytes : List ℕ) (from to : ℕ) (datagrams : List (List ℕ)) (signature : List ℕ)
     → SpellsDatagram s (record { message = record { from = from; to = to; body = Evidence datagrams }; signature = signature }) bytes
     → (16 ≤ length bytes) × IsEvidence (drop 16 bytes) datagrams
@@ -166,7 +166,7 @@ evidence_behind s bytes from to datagrams signature spelled =
       },
     )
 
--- a view that is an EVIDENCE has its datagrams
+-- the view of an EVIDENCE contains its datagrams
 pub view_behind : (s : Shape) (bytes : List ℕ) (v : View) (count : ℕ) (rest : Bor (List ℕ)) → IsView s bytes v
     → v.body ≡ raw.Evidence count rest → (16 ≤ length bytes) × IsEvidence (drop 16 bytes) (entries count rest.now)
 view_behind s bytes v count rest view is =

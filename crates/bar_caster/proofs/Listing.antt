@@ -1,4 +1,4 @@
--- The evicted peers of rooms and of a log.
+-- The evicted peers, from rooms and from a log.
 use Rattle.std.proofs.Common.{◌≡◌, ◌∙◌, ℕ, zero, suc, ◌+◌, ◌==◌, ◌++◌, Bool, true, false, List, [], ◌∷◌, Some, None}
 use Rattle.std.proofs.Common.{is_some, refl, sym, ap, subst, arith, inl, inr}
 use Rattle.std.specs.Prelude.{filter, option_map, if◌then◌else◌}
@@ -9,7 +9,7 @@ use Rattle.std.proofs.lemmas.Bool.{eq-eqb, ne_eqb, cases_eq}
 use Rattle.std.proofs.lemmas.List.{map-id, append-nil}
 use Rattle.std.proofs.lemmas.List.FromFn.{filter_of_map_range_with_len_more}
 use Rattle.bar_bytes.specs.declared.rooms.Rooms.{Rooms}
-use Rattle.bar_bytes.specs.Rooms.{kept_in}
+use Rattle.bar_bytes.specs.Code.Rooms.{kept_in}
 use Rattle.bar_bytes.proofs.Options.{or-none, some-mapped}
 use Rattle.bar_window.proofs.Ranges.{filter_agree_from}
 use Rattle.bar_wire.specs.Evidence.{evidence_bytes}
@@ -18,8 +18,8 @@ use Rattle.bar_rules.specs.Member.{Session}
 use Rattle.bar_rules.specs.Peer.Log.{Log, Kept, kept}
 use Rattle.bar_rules.specs.Broadcaster.Sending.{evicted}
 use Rattle.bar_caster.specs.declared.evictions.Evictions.{Evictions}
-use Rattle.bar_caster.specs.Evictions.{AreOfLog}
-use Rattle.bar_caster.specs.Listed.{peers_with_evidence}
+use Rattle.bar_caster.specs.Code.Evictions.{AreOfLog}
+use Rattle.bar_caster.specs.Code.Listed.{peers_with_evidence}
 
 -- ---- peer by peer
 
@@ -48,7 +48,7 @@ kept_elsewhere log q p ev other = (λ i. option_or (kept log p) (then_some (othe
 
 -- ---- the evictions after evidence
 
--- the evidence is put into the room of a party
+-- the evidence is stored in the room of a party
 abbrev IsKept : Rooms → Rooms → ℕ → List (List ℕ) → Type 0
 IsKept old new q ev = (p : ℕ) → kept_in new p ≡ (if p == q then Some (evidence_bytes ev) else kept_in old p)
 
@@ -68,7 +68,7 @@ kept_so s e f log q ev h none keeps p peer = elim (cases_eq p q) [
       ∙ ap (option_map evidence_bytes) (sym (kept_elsewhere log q p ev (ne_eqb q p (λ same. other (sym same)))))
 ]
 
--- the room of a number that is no peer's stays empty
+-- the rooms of numbers that aren't peers stay empty
 others_so : (s : Session) (e f : Evictions) (q : ℕ) (ev : List (List ℕ)) → IsPeer s.shape q
     → ((p : ℕ) → (IsPeer s.shape p → ⊥) → kept_in e.evidence p ≡ None) → IsKept e.evidence f.evidence q ev
     → (p : ℕ) → (IsPeer s.shape p → ⊥) → kept_in f.evidence p ≡ None
@@ -78,7 +78,7 @@ others_so s e f q ev peer empty keeps p other =
     then Some (evidence_bytes ev) else kept_in e.evidence p)
     ∙ empty p other
 
--- what is kept in the rooms of the peers says who is evicted
+-- the peers with evidence in their rooms are the evicted peers
 listed_so : (s : Session) (rooms : Rooms) (log : Log)
     → ((p : ℕ) → IsPeer s.shape p → kept_in rooms p ≡ option_map evidence_bytes (kept log p))
     → peers_with_evidence rooms s.shape.peers ≡ evicted s log
@@ -98,7 +98,7 @@ evicts s e f log q ev h peer none keeps peers listed =
       list = listed ∙ (λ i. peers_with_evidence f.evidence ((peers ∙ h.peers) i)) ∙ listed_so s f.evidence (Kept q ev ∷ log) is;
     }
 
--- evidence against one that isn't a peer changes nothing
+-- evidence against a party that isn't a peer changes nothing
 pub stays : (s : Session) (e : Evictions) (log : Log) (q : ℕ) (ev : List (List ℕ)) → AreOfLog s e log → (IsPeer s.shape q → ⊥)
     → AreOfLog s e (Kept q ev ∷ log)
 stays s e log q ev h other =
@@ -112,7 +112,7 @@ stays s e log q ev h other =
           (λ p low high. ap is_some (same p (omega (arith, low), omega (arith, high))));
     }
 
--- of a peer whose room is empty the log keeps nothing
+-- a peer's room is empty if and only if the log keeps no evidence against it
 pub room-tells : (s : Session) (e : Evictions) (log : Log) (q : ℕ) → AreOfLog s e log → IsPeer s.shape q
     → is_some (kept_in e.evidence q) ≡ is_some (kept log q)
 room-tells s e log q h peer = ap is_some (h.evidence q peer) ∙ some-mapped evidence_bytes (kept log q)

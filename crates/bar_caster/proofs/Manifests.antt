@@ -1,4 +1,4 @@
--- The digests of a round's blocks, one behind the other.
+-- The concatenated digests of a round's blocks.
 use Rattle.std.proofs.Common.{◌≡◌, ℕ, zero, suc, ◌+◌, List, [], ◌∷◌, ◌++◌, take, sym, ap, ◌∙◌, append_assoc, arith}
 use Rattle.std.specs.Prelude.{map, slice_get, Some}
 use Rattle.std.specs.List.{concat}
@@ -8,7 +8,7 @@ use Rattle.sha2.specs.Sha256.{sha256}
 abbrev pub digests_of : List (List ℕ) → List ℕ
 digests_of blocks = concat (map sha256 blocks)
 
--- the digests of one block more
+-- the digests with one more block
 next-digest : (blocks : List (List ℕ)) (i : ℕ) (block : List ℕ) → slice_get blocks i ≡ Some block
     → digests_of (take (suc i) blocks) ≡ digests_of (take i blocks) ++ sha256 block
 next-digest [] i block here = cc

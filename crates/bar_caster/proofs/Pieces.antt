@@ -11,7 +11,7 @@ use Rattle.bar_wire.specs.Limits.{largest_content}
 use Rattle.bar_rules.specs.Member.{Session}
 use Rattle.bar_rules.specs.Broadcaster.Stream.{block_bytes, piece_of, round_blocks}
 
--- a test that holds of the first k of a run of numbers alone
+-- a test that holds exactly for the first k numbers of a range keeps these
 kept-front : (p : ℕ → Bool) (a n k : ℕ) → k ≤ n → ((i : ℕ) → a ≤ i → i < a + k → p i ≡ true)
     → ((i : ℕ) → a + k ≤ i → i < a + n → p i ≡ false) → filter p (range_with_len a n) ≡ range_with_len a k
 kept-front p a zero zero few first last = refl
@@ -31,7 +31,7 @@ kept-front p a (suc n) (suc k) few first last =
     (λ i low high. last i (omega (arith, low)) (omega (arith, high))) in
     rw (here, rest) refl
 
--- how many blocks a round has, whose first block has this number
+-- how many blocks a round has, given the number of its first block
 abbrev pub count_from : ℕ → ℕ → ℕ → ℕ
 count_from len per_round number = min (div_ceil (len - number * largest_content) largest_content) per_round
 

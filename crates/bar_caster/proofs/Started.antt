@@ -1,4 +1,4 @@
--- What a broadcaster knows that took no input yet.
+-- The knowledge of a broadcaster before any input.
 use Rattle.std.proofs.Common.{◌≡◌, ℕ, List, [], None, false, arith, inl, inr}
 use Rattle.std.specs.Prelude.{◌&&◌, nat_le}
 use Rattle.std.specs.Bool.{then_some}

@@ -1,7 +1,7 @@
--- What an input leaves, over the list of inputs.
+-- The outcome of an input, given the inputs before it.
 use Rattle.std.proofs.Common.{◌≡◌, ◌∙◌, ℕ, Bool, true, false, List, [], ◌∷◌, ◌++◌, map, sym, ap, subst}
 use Rattle.std.specs.Prelude.{nat_le, if◌then◌else◌, Option, Some}
-use Rattle.bar_core.specs.Orders.{left_in}
+use Rattle.bar_core.specs.Code.Orders.{left_in}
 use Rattle.bar_wire.specs.Datagram.{Datagram}
 use Rattle.bar_wire.specs.Inputs.{Input}
 use Rattle.bar_rules.specs.Broadcaster.Sending.{caster_log_after, caster_step, caster_take}
@@ -13,18 +13,18 @@ use Rattle.bar_rules.specs.Runs.{Outcome, begun}
 use Rattle.bar_rules.proofs.LongerRuns.{state_after_both}
 use Rattle.bar_caster.specs.declared.memory.Memory.{Memory}
 use Rattle.bar_caster.specs.declared.order.Order.{Order}
-use Rattle.bar_caster.specs.Memory.{Represents, IsOfTheSame, member_of, stream_of}
-use Rattle.bar_caster.specs.Orders.{Orders, AreFor, HasOutcome, order_now}
-use Rattle.bar_caster.specs.StandsFor.{StandsFor, AreLeft, log_of}
+use Rattle.bar_caster.specs.Code.Memory.{Represents, IsOfTheSame, member_of, stream_of}
+use Rattle.bar_caster.specs.Code.Orders.{Orders, AreFor, HasOutcome, order_now}
+use Rattle.bar_caster.specs.Code.StandsFor.{StandsFor, AreLeft, log_of}
 
--- ---- one input more
+-- ---- one more input
 
--- the log of one input more
+-- the log after one more input
 pub log_more : (me : Member) (stream : List ℕ) (inputs : List Input) (input : Input)
     → caster_log_after me stream (inputs ++ input ∷ []) ≡ (caster_step me stream (caster_log_after me stream inputs) input).state
 log_more me stream inputs input = state_after_both (caster_step me stream) [] inputs (input ∷ [])
 
--- the log is that of the session, the secrets and the stream
+-- the log depends only on the session, the secrets and the stream
 log_same : (m n : Memory) (inputs : List Input) → IsOfTheSame m n → log_of n inputs ≡ log_of m inputs
 log_same m n inputs same = λ i. caster_log_after (member_by (same.session i) (same.secrets i)) (same.stream i).bytes.items inputs
 
@@ -36,13 +36,13 @@ step_is : (me : Member) (stream : List ℕ) (log : Log) (input : Input) (over : 
 unfolding caster_step
 step_is me stream log input over is = ap (step_by me stream log input) is
 
--- no orders are left, and nothing was sent
+-- if nothing was sent, no orders are left
 pub nothing_left : (me : Member) (stream : List ℕ) (log : Log) (left : List Order) (sends : List (ℕ × Datagram)) → left ≡ [] → sends ≡ []
     → AreFor me stream log left sends
 nothing_left me stream log left sends none silent =
     ap (map (order_now me stream log)) none ∙ sym (ap {B = List (Option (ℕ × Datagram))} (map (λ send. Some send)) silent)
 
--- ---- before the last tick was taken
+-- ---- before the last tick
 
 module _ (m n : Memory) (inputs : List Input) (input : Input) (same : IsOfTheSame m n) (go : nat_le (last_tick m.session) m.ticks ≡ false)
     (stood : StandsFor m inputs) where
@@ -76,7 +76,7 @@ module _ (m n : Memory) (inputs : List Input) (input : Input) (same : IsOfTheSam
       none
       (ap (λ (out : Outcome Log). out.sends) now ∙ silent)
 
--- ---- after it
+-- ---- after the last tick
 
 over_is : (m : Memory) (inputs : List Input) (input : Input) → nat_le (last_tick m.session) m.ticks ≡ true → StandsFor m inputs
     → caster_step (member_of m) (stream_of m) (log_of m inputs) input ≡ begun (log_of m inputs)

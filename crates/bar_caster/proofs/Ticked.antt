@@ -1,4 +1,4 @@
--- What a tick of the broadcaster leaves, and what it sends.
+-- The outcome of a tick of the broadcaster.
 use Rattle.std.proofs.Common.{◌≡◌, ◌∙◌, ℕ, ◌+◌, ◌-◌, ◌*◌, ◌<◌, ◌≤◌, ◌++◌, ◌⊎◌, inl, inr, Bool, true, false, List, [], ◌∷◌, length, refl}
 use Rattle.std.proofs.Common.{sym, ap, subst, arith, map}
 use Rattle.std.specs.Prelude.{◌==◌, ◌&&◌, ◌||◌, not, if◌then◌else◌, nat_le, nat_lt, Some, None, slice_get}
@@ -22,13 +22,13 @@ use Rattle.bar_laws.specs.Broadcasting.{SignsOnce, manifest_of}
 use Rattle.bar_caster.specs.declared.item.Item.TheVariants as items
 use Rattle.bar_caster.specs.declared.memory.Memory.{Memory}
 use Rattle.bar_caster.specs.declared.order.Order.{Order}
-use Rattle.bar_caster.specs.Memory.{IsOfTheSame, Represents, member_of, said_of, stream_of}
-use Rattle.bar_caster.specs.Orders.{AreFor, Orders, HasOutcome, order_now, orders_to}
-use Rattle.bar_caster.specs.Ticking.{begins_round, begun_round, block_orders, notice_now, says_again}
+use Rattle.bar_caster.specs.Code.Memory.{IsOfTheSame, Represents, member_of, said_of, stream_of}
+use Rattle.bar_caster.specs.Code.Orders.{AreFor, Orders, HasOutcome, order_now, orders_to}
+use Rattle.bar_caster.specs.Code.Ticking.{begins_round, begun_round, block_orders, notice_now, says_again}
 use Rattle.bar_caster.proofs.Grown.{not_said_yet, same_said, same_served}
 use Rattle.bar_caster.proofs.Flat.{all-flat, blocks_from, blocks-flat, for-blocks, for-both, for-each, to_each, with_sends}
 
--- ---- the memory's members
+-- ---- the member of the memory
 
 same-member : (old new : Memory) → IsOfTheSame old new → member_of new ≡ member_of old
 same-member old new same = λ i. member_by (same.session i) (same.secrets i)
@@ -36,7 +36,7 @@ same-member old new same = λ i. member_by (same.session i) (same.secrets i)
 same-stream : (old new : Memory) → IsOfTheSame old new → stream_of new ≡ stream_of old
 same-stream old new same = λ i. (same.stream i).bytes.items
 
--- the member and the stream of a tick are those of the memory after it
+-- the member and the stream of the outcome are those of the memory after the tick
 pub stands-so : (old new : Memory) (o : Orders) (at : Log) → IsOfTheSame old new
     → HasOutcome (caster_tick (member_of new) (stream_of new) (begun at)) new o
     → HasOutcome (caster_tick (member_of old) (stream_of old) (begun at)) new o
@@ -52,11 +52,11 @@ signs-so old new log same signs =
 
 -- ---- the cases of a tick
 
--- the manifest of the round before, where it goes out again
+-- the manifest of the previous round, if it is sent again
 abbrev again_by : Member → Log → Bool → Outcome Log
 again_by me at again = if again then repeat_manifest me.session (round_now at - 1) (begun at) else begun at
 
--- whether the slot is 2, whether the round is one of the session, and whether the slot is 0, 4, or one of 1 and 5
+-- the cases of a tick: whether the slot is 2, whether the round is one of the session, and whether the slot is 0, 4, or one of 1 and 5
 abbrev tick_by : Member → List ℕ → Log → Bool → Bool → Bool → Bool → Bool → Outcome Log
 tick_by me stream at second low first fourth middle =
     if second then again_by me at (repeats_manifest me.session (round_now at))
@@ -84,7 +84,7 @@ module _ (n : Memory) (o : Orders) (at : Log) (tells : Represents at n) where
   abbrev out : Outcome Log
   out = caster_tick me stream (begun at)
 
-  -- what is sent is a list, and the orders are for it
+  -- if the outcome sends a list, and the orders are for this list, the outcome holds
   stand-for : (sends : List (ℕ × Datagram)) → out ≡ with_sends (begun at) sends → AreFor me stream at o.list.items sends → HasOutcome out n o
   stand-for sends is for =
       subst (λ (out : Outcome Log). HasOutcome out n o) (sym is)
@@ -99,7 +99,7 @@ module _ (n : Memory) (o : Orders) (at : Log) (tells : Represents at n) where
   slot-is : slot at ≡ slot_after n.ticks
   slot-is = ap slot_after tells.time
 
-  -- where no manifest goes out again, slot 2 is quiet
+  -- if no manifest is sent again, nothing is sent in slot 2
   unless-again : says_again n.session n.ticks ≡ false → (rest : Outcome Log) → rest ≡ begun at
       → (if slot at == 2 then again_by me at (repeats_manifest n.session (round_now at)) else rest) ≡ begun at
   unless-again none rest is =
@@ -153,7 +153,7 @@ module _ (n : Memory) (o : Orders) (at : Log) (tells : Represents at n) where
   blocks-stand (inl one) high orders = blocks-stand-at 1 one refl refl refl refl high orders
   blocks-stand (inr five) high orders = blocks-stand-at 5 five refl refl refl refl high orders
 
-  -- the manifest goes out again
+  -- the manifest is sent again
   pub manifest-stands : said_of kinds.Manifest (round_now at) at ≡ Some (manifest_of me stream (round_now at)) → slot_after n.ticks ≡ 4
       → round_after n.ticks ≤ n.session.shape.rounds → o.list.items ≡ orders_to items.Manifest (served n.session at) → HasOutcome out n o
   manifest-stands said is high orders =
@@ -170,7 +170,7 @@ module _ (n : Memory) (o : Orders) (at : Log) (tells : Represents at n) where
       ∙ all-flat (begun at) (served n.session at) d)
       (ap (map (order_now me stream at)) orders ∙ for-each me stream at items.Manifest (λ p. d) (served n.session at) (λ p. said))
 
-  -- so does that of the round before
+  -- the manifest of the previous round is sent again
   pub again-stands : says_again n.session n.ticks ≡ true
       → said_of kinds.Manifest (round_now at - 1) at ≡ Some (manifest_of me stream (round_now at - 1))
       → o.list.items ≡ orders_to items.ManifestBefore (served n.session at) → HasOutcome out n o
@@ -184,11 +184,11 @@ module _ (n : Memory) (o : Orders) (at : Log) (tells : Represents at n) where
       ∙ all-flat (begun at) (served n.session at) d)
       (ap (map (order_now me stream at)) orders ∙ for-each me stream at items.ManifestBefore (λ p. d) (served n.session at) (λ p. said))
 
--- what is put behind nothing is all
+-- appending to an empty list gives the appended list
 pub from-none : (old list new : List Order) → new ≡ old ++ list → old ≡ [] → new ≡ list
 from-none old list new is empty = is ∙ ap (λ old. old ++ list) empty
 
--- in a later slot of a round its manifest was said
+-- in a later slot of a round, its manifest was said
 pub said-again : (me : Member) (stream : List ℕ) (log : Log) → SignsOnce me stream log → 1 ≤ slot_after (ticks log + 1)
     → round_after (ticks log + 1) ≤ me.session.shape.rounds
     → said_of kinds.Manifest (round_now (Ticked ∷ log)) (Ticked ∷ log) ≡ Some (manifest_of me stream (round_now (Ticked ∷ log)))
@@ -196,7 +196,7 @@ said-again me stream log signs later high =
     let m : ℕ = round_now (Ticked ∷ log) in
     ap (λ o. option_or o None) (signs.manifests m (omega arith) (omega arith) (omega arith))
 
--- where the manifest of the round before goes out again, it was said
+-- if the manifest of the previous round is sent again, it was said
 pub said-before : (me : Member) (stream : List ℕ) (log : Log) → SignsOnce me stream log → says_again me.session (ticks log + 1) ≡ true
     → said_of kinds.Manifest (round_now (Ticked ∷ log) - 1) (Ticked ∷ log) ≡ Some (manifest_of me stream (round_now (Ticked ∷ log) - 1))
 said-before me stream log signs again =
@@ -207,7 +207,7 @@ said-before me stream log signs again =
     let high : m ≤ me.session.shape.rounds + 1 = leb-true _ _ within.1 in
     ap (λ o. option_or o None) (signs.manifests (m - 1) (omega (arith, low)) (omega (arith, high)) (omega arith))
 
--- a tick that begins no round of the session, but is of one, isn't in slot 0
+-- a tick of a round of the session that doesn't begin it isn't in slot 0
 pub first-passed : (s : Session) (ticks : ℕ) → begins_round s ticks ≡ false → round_after (ticks + 1) ≤ s.shape.rounds
     → (slot_after (ticks + 1) == 0) ≡ false
 first-passed s ticks none high =
@@ -219,7 +219,7 @@ first-passed s ticks none high =
 
 -- ---- the tick that begins a round
 
--- it is in slot 0 of a round of the session
+-- the tick is in slot 0 of a round of the session
 pub round-begins : (s : Session) (ticks : ℕ) → begins_round s ticks ≡ true
     → (slot_after (ticks + 1) ≡ 0) × (round_after (ticks + 1) ≤ s.shape.rounds)
 round-begins s ticks is =
@@ -228,7 +228,7 @@ round-begins s ticks is =
     let low : nat_le (round_after (ticks + 1)) s.shape.rounds ≡ true = both.1 in
     (grind (arith, nat_tests, first), grind (arith, nat_tests, low))
 
--- what is said changes no round and no evictions
+-- a message that is said changes neither the round nor the evictions
 pub same-round : (log : Log) (d : Datagram) → round_now (Said d ∷ log) ≡ round_now log
 same-round log d = let same : ticks log + 0 ≡ ticks log = omega arith in ap round_after same
 
@@ -243,7 +243,7 @@ module _ (me : Member) (stream : List ℕ) (log : Log) (signs : SignsOnce me str
   abbrev manifest : Datagram
   manifest = manifest_of me stream round
 
-  -- the log when the manifest was said, and when the notice was
+  -- the log after the manifest was said, and the log after the notice was said
   abbrev said : Log
   said = begun_round me stream log
 
@@ -253,7 +253,7 @@ module _ (me : Member) (stream : List ℕ) (log : Log) (signs : SignsOnce me str
   abbrev told : Log
   told = Said notice ∷ said
 
-  -- the manifest to those that are served
+  -- the manifest, to all served peers
   abbrev sends : List (ℕ × Datagram)
   sends = to_each (served me.session said) manifest
 
@@ -296,7 +296,7 @@ module _ (me : Member) (stream : List ℕ) (log : Log) (signs : SignsOnce me str
       (λ i. said_of kinds.Evict (round-later i) told)
       ∙ (λ i. option_or (notice-unsaid i) (then_some (eq-eqb (round_now said) (round_now said) refl i) notice))
 
-  -- where none is evicted
+  -- if no peer is evicted
   alone-is : evicted me.session said ≡ [] → caster_tick me stream (begun at) ≡ with_sends (begun said) sends
   alone-is none =
       let out : Outcome Log = with_sends (begun said) sends in
@@ -308,7 +308,7 @@ module _ (me : Member) (stream : List ℕ) (log : Log) (signs : SignsOnce me str
   alone-for : AreFor me stream said (orders_to items.Manifest (served me.session said)) sends
   alone-for = for-each me stream said items.Manifest (λ p. manifest) (served me.session said) (λ p. manifest-said)
 
-  -- where some are
+  -- if some peers are evicted
   both-are : nat_lt 0 (length (evicted me.session said)) ≡ true
       → caster_tick me stream (begun at) ≡ with_sends (begun told) (sends ++ to_each (served me.session said) notice)
   both-are some =
@@ -330,7 +330,7 @@ module _ (me : Member) (stream : List ℕ) (log : Log) (signs : SignsOnce me str
       (for-each me stream told items.Manifest (λ p. manifest) (served me.session said) (λ p. still-said))
       (for-each me stream told items.Evictions (λ p. notice) (served me.session said) (λ p. notice-said))
 
--- orders and sends of a member are those of its memory
+-- the orders and datagrams of a member are those of its memory
 stands-with : (old n : Memory) (o : Orders) (before after : Outcome Log) → IsOfTheSame old n → before ≡ after → Represents after.state n
     → AreFor (member_of old) (stream_of old) after.state o.list.items after.sends → HasOutcome before n o
 stands-with old n o before after same is tells for =
@@ -365,7 +365,7 @@ same-both old m n first second = record {
   stream = second.stream ∙ first.stream;
 }
 
--- the memory when the manifest was signed, and when the notice was
+-- the memory after the manifest was signed, and the memory after the notice was signed
 pub both-stand : (old m n : Memory) (o : Orders) (list : List Order) (log : Log) → IsOfTheSame old m → IsOfTheSame m n
     → SignsOnce (member_of old) (stream_of old) log → slot_after (ticks log + 1) ≡ 0
     → round_after (ticks log + 1) ≤ old.session.shape.rounds → Represents (begun_round (member_of old) (stream_of old) log) m

@@ -1,11 +1,1 @@
-pub mod Evictions
-pub mod Listed
-pub mod Fanout
-pub mod Memory
-pub mod Orders
-pub mod StandsFor
-pub mod Ticking
-pub mod Core
-pub mod Time
-pub mod Runs
-pub mod Ignoring
+pub mod Code

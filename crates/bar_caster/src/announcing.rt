@@ -1,11 +1,11 @@
-//! The messages of the broadcaster that go to all peers.
+//! The broadcaster's messages that are sent to all peers.
 ghost use Rattle.std.specs.Prelude.{◌≡◌, ◌+◌, ◌*◌, ◌≤◌, ℕ, List, length, take};
 ghost use Rattle.std.specs.List.{concat, flat_map};
 ghost use Rattle.bar_bytes.specs.Bytes.{u16_bytes};
 ghost use Rattle.bar_wire.specs.Datagram.{Manifest, Evict};
 ghost use Rattle.bar_wire.specs.Limits.{header_len, largest_datagram};
-ghost use Rattle.bar_wire.specs.Views.{plain, IsBody};
-ghost use Rattle.bar_wire.specs.Writing.{body_written};
+ghost use Rattle.bar_wire.specs.Code.Views.{plain, IsBody};
+ghost use Rattle.bar_wire.specs.Code.Writing.{body_written};
 ghost use Rattle.bar_rules.specs.Values.{message_bytes};
 ghost use Rattle.bar_rules.specs.Broadcaster.Sending.{caster_message};
 
@@ -13,7 +13,7 @@ use bar_bytes::put_u16;
 use bar_roster::Session;
 use bar_wire::{BROADCASTER, Body, EVERYONE, encode};
 
-/// Writes the message of a body to all peers, which is all before the signature, to the front of `out`, and answers its length.
+/// Writes the message of a body to all peers, without the signature, to the start of `out`, and returns its length.
 fn write_to_all(session: &Session, body: &Body<'_>, out: &mut [u8]) -> usize
     requires body { IsBody session.now.shape body.now }
     requires short { header_len + body_written session.now.shape body.now ≤ largest_datagram }
@@ -25,7 +25,7 @@ fn write_to_all(session: &Session, body: &Body<'_>, out: &mut [u8]) -> usize
     encode(BROADCASTER, EVERYONE, body, &shape, out)
 }
 
-/// Writes the message of the MANIFEST of a round, of so many digests of 32 bytes each, to the front of `out`, and answers its length.
+/// Writes the message of a round's MANIFEST to the start of `out`, and returns its length. It has `count` digests of 32 bytes each.
 pub fn write_manifest(
     session: &Session,
     round: u32,
@@ -47,7 +47,8 @@ pub fn write_manifest(
     write_to_all(session, &body, out)
 }
 
-/// Writes the message of an EVICT of a round, of parties that stand in two bytes each, to the front of `out`, and answers its length.
+/// Writes the message of a round's EVICT to the start of `out`, and returns its length. `parties` contains `count` parties of two bytes
+/// each.
 pub fn write_evictions(
     session: &Session,
     round: u32,
@@ -69,7 +70,7 @@ pub fn write_evictions(
     write_to_all(session, &body, out)
 }
 
-/// Writes parties in two bytes each to the front of `out`, and answers the length of all.
+/// Writes parties, of two bytes each, to the start of `out`, and returns the length of all.
 pub fn write_parties(parties: &[u16], out: &mut [u8]) -> usize
     requires { 2 * length parties.now ≤ length out.old }
     ensures written { take result out.new ≡ flat_map u16_bytes parties.now }

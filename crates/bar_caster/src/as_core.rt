@@ -1,10 +1,10 @@
-//! A broadcaster as a core.
+//! A broadcaster as an implementation of `Core`.
 ghost use Rattle.std.specs.Prelude.{◌≡◌, ◌<◌, ◌++◌, ◌∷◌, []};
-ghost use Rattle.bar_core.specs.Orders.{left_in};
+ghost use Rattle.bar_core.specs.Code.Orders.{left_in};
 ghost use Rattle.bar_wire.specs.Inputs.{plain_input};
 ghost use Rattle.bar_rules.specs.Broadcaster.Sending.{caster_step};
-ghost use Rattle.bar_caster.specs.Memory.{IsOfTheSame, member_of, stream_of};
-ghost use Rattle.bar_caster.specs.StandsFor.{Inputs, StandsFor, AreLeft, log_of};
+ghost use Rattle.bar_caster.specs.Code.Memory.{IsOfTheSame, member_of, stream_of};
+ghost use Rattle.bar_caster.specs.Code.StandsFor.{Inputs, StandsFor, AreLeft, log_of};
 
 use crate::caster::Caster;
 use bar_bytes::{Rooms, Steps};
@@ -15,7 +15,7 @@ use bar_wire::{Input, Shape};
 use std::marker::Brand;
 use std::sync::ledger::{Blank, Ledger};
 
-// Takes an input, with a count of steps that nobody reads.
+// Takes an input and discards the count of steps.
 fn take_uncounted<S: Scheme, L: Ledger>(caster: &mut Caster<S>, input: Input<'_>, blank: Blank)
     requires name { blank.name ≡ L.name }
     requires parts { blank.parts ≡ L.parts }
@@ -34,8 +34,8 @@ fn take_uncounted<S: Scheme, L: Ledger>(caster: &mut Caster<S>, input: Input<'_>
 
 impl<S: Scheme> Core for Caster<S> {
     ghost use Rattle.std.proofs.Common.{sym, ◌∙◌};
-    ghost use Rattle.bar_caster.specs.Core.{Owes, face_of};
-    ghost use Rattle.bar_caster.specs.Time.{last_tick-small, log-time};
+    ghost use Rattle.bar_caster.specs.Code.Core.{Owes, face_of};
+    ghost use Rattle.bar_caster.specs.Code.Time.{last_tick-small, log-time};
 
     ghost stands = { λ c inputs. StandsFor c.memory inputs };
 

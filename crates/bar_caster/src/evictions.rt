@@ -1,17 +1,17 @@
 ghost use Rattle.std.specs.Prelude.{◌≡◌, ◌+◌, ◌≤◌, length, vec_capacity};
-ghost use Rattle.bar_caster.specs.Listed.{peers_with_evidence};
+ghost use Rattle.bar_caster.specs.Code.Listed.{peers_with_evidence};
 
 use bar_bytes::Rooms;
 use bar_core::keep_evidence;
 use bar_wire::EvidenceView;
 use std::alloc::{AllocError, Global};
 
-/// The evicted peers in increasing order, and the first accepted evidence against each. All memory is taken when it is made.
+/// The evicted peers in increasing order, and the first accepted evidence against each. All memory is allocated when it is made.
 #[derive(Drop)]
 pub struct Evictions {
     peers: u16,
     list: Vec<u16>,
-    /// The evidence against each party, as the body of an EVIDENCE has it.
+    /// The evidence against each party, encoded as the body of an EVIDENCE.
     evidence: Rooms,
     ghost list_room: { peers ≤ vec_capacity list },
     ghost rooms: { length evidence.rooms.items ≡ peers + 1 },
@@ -38,14 +38,14 @@ fn list_evicted(list: &mut Vec<u16>, evidence: &Rooms, peers: u16)
 
 impl Evictions {
     ghost use Rattle.std.specs.Prelude.{◌≡◌, ◌<◌, ◌≤◌, [], None, true, is_some, length, IfOk, option_copied, ◌∷◌};
-    ghost use Rattle.bar_bytes.specs.Rooms.{kept_in};
+    ghost use Rattle.bar_bytes.specs.Code.Rooms.{kept_in};
     ghost use Rattle.bar_wire.specs.Evidence.{datagrams_of, evidence_bytes};
     ghost use Rattle.bar_wire.specs.Grammar.{AreDatagramsInRange};
     ghost use Rattle.bar_rules.specs.Member.{Session};
     ghost use Rattle.bar_rules.specs.Peer.Log.{Log, Kept, kept};
-    ghost use Rattle.bar_caster.specs.Evictions.{AreOfLog};
+    ghost use Rattle.bar_caster.specs.Code.Evictions.{AreOfLog};
 
-    /// No evictions, and room for those of all peers, each with evidence of at most `size` bytes.
+    /// No evictions, with room for those of all peers, each with evidence of at most `size` bytes.
     pub fn make(alloc: Global, peers: u16, size: usize) -> Result<Evictions, AllocError>
         ensures empty { IfOk result (λ e. (s : Session) → s.shape.peers ≡ peers → AreOfLog s e []) }
         ensures size { IfOk result (λ e. e.evidence.size ≡ size) }
@@ -67,7 +67,7 @@ impl Evictions {
         &self.list
     }
 
-    /// The evidence that is kept against a party, as the body of an EVIDENCE has it.
+    /// The evidence that is kept against a party, encoded as the body of an EVIDENCE.
     pub fn evidence(&self, party: u16) -> Option<&[u8]>
         ensures { option_copied result ≡ kept_in self.now.evidence party }
     {
@@ -88,7 +88,7 @@ impl Evictions {
         self.evidence(party).is_some()
     }
 
-    /// Evicts a peer on this evidence, where it isn't evicted yet and the evidence fits.
+    /// Evicts a peer on this evidence, if it isn't evicted yet and the evidence fits its room.
     pub fn evict(&mut self, party: u16, evidence: &EvidenceView<'_>)
         ensures kept { (s : Session) (log : Log) → AreOfLog s self.old log → kept log party ≡ None
             → AreDatagramsInRange (datagrams_of evidence.now) → length (evidence_bytes (datagrams_of evidence.now)) ≤ self.old.evidence.size

@@ -1,4 +1,4 @@
-//! The peers to which the block of an update goes.
+//! The peers to which the block of an update is sent.
 
 ghost use Rattle.std.specs.Prelude.{◌≡◌, ◌+◌, ◌<◌, ◌≤◌, ◌^◌, length};
 ghost use Rattle.std.specs.Ordering.{ordering_then, is_lt, nat_cmp};
@@ -6,7 +6,7 @@ ghost use Rattle.std.specs.Cmp.Lexicographic.{slice_cmp};
 ghost use Rattle.bar_window.specs.declared.update.UpdateId.{UpdateId};
 ghost use Rattle.bar_rules.specs.Member.{Member};
 ghost use Rattle.bar_rules.specs.Broadcaster.Stream.{rank_of};
-ghost use Rattle.bar_caster.specs.Fanout.{HasSecret, AreRanksOf, AreRanksBy, count_before};
+ghost use Rattle.bar_caster.specs.Code.Fanout.{HasSecret, AreRanksOf, AreRanksBy, count_before};
 
 use bar_bytes::{Steps, Tagged};
 use bar_window::UpdateId;
@@ -14,7 +14,7 @@ use std::alloc::{AllocError, Global};
 use std::marker::Model;
 use std::sync::ledger::Ledger;
 
-/// The ranks of the peers for one update, that of peer 1 first.
+/// The ranks of the peers for one update, starting with peer 1.
 #[derive(Drop)]
 pub struct Ranks {
     ranks: Vec<[u8; 32]>,
@@ -30,7 +30,7 @@ impl Model for Ranks {
     ghost invariant = { λ r. length r.ranks.items < 2 ^ 16 };
 }
 
-/// The rank of a peer for an update, in the session with this id, by the broadcaster's secret.
+/// The rank of a peer for an update, in the session with this id, computed with the broadcaster's secret.
 #[tactic(auto, unfolding(bar_rules::specs::Broadcaster::Stream::rank_of, bar_bytes::specs::Bytes::u16_bytes, bar_bytes::specs::Bytes::u32_bytes))]
 fn rank(id: &[u8; 8], secret: &[u8; 32], update: UpdateId, peer: u16) -> [u8; 32]
     ensures { (me : Member) → HasSecret me id.now secret.now → result ≡ rank_of me update peer }
@@ -43,7 +43,7 @@ fn rank(id: &[u8; 8], secret: &[u8; 32], update: UpdateId, peer: u16) -> [u8; 32
     hash.finish()
 }
 
-/// Computes the rank of each peer. It counts a step for each.
+/// Computes the rank of each peer. It counts one step for each.
 fn fill_ranks<L: Ledger>(
     ranks: &mut [[u8; 32]],
     id: &[u8; 8],
@@ -61,14 +61,14 @@ fn fill_ranks<L: Ledger>(
     }
 }
 
-/// Whether a peer with this rank stands before another: by the ranks, and where these are equal by its number.
+/// Whether a peer precedes another: by rank, and if the ranks are equal by number.
 fn stands_before(rank: &[u8; 32], peer: u16, other_rank: &[u8; 32], other: u16) -> bool
     ensures { result ≡ is_lt (ordering_then (slice_cmp nat_cmp rank.now other_rank.now) (nat_cmp peer other)) }
 {
     rank.cmp(other_rank).then(peer.cmp(&other)).is_lt()
 }
 
-/// How many peers stand before a peer, by the ranks of all.
+/// How many peers precede a peer, given the ranks of all.
 fn count_before(ranks: &[[u8; 32]], peer: u16) -> usize
     requires first { 1 ≤ peer }
     requires last { peer ≤ length ranks.now }
@@ -90,9 +90,9 @@ impl Ranks {
     ghost use Rattle.bar_window.specs.declared.update.UpdateId.{UpdateId};
     ghost use Rattle.bar_rules.specs.Member.{Member};
     ghost use Rattle.bar_rules.specs.Broadcaster.Stream.{is_in_fanout};
-    ghost use Rattle.bar_caster.specs.Fanout.{AreRanksOf, AreRanksBy};
+    ghost use Rattle.bar_caster.specs.Code.Fanout.{AreRanksOf, AreRanksBy};
 
-    /// Room for the rank of each of so many peers.
+    /// Room for the ranks of `peers` peers.
     pub fn make(alloc: Global, peers: u16) -> Result<Ranks, AllocError>
         ensures { IfOk result (λ r. length r ≡ peers) }
     {
@@ -100,8 +100,8 @@ impl Ranks {
         Ok(Ranks { ranks })
     }
 
-    /// Computes the rank of each peer for an update, in the session with this id, by the broadcaster's secret. It counts a step for each
-    /// peer.
+    /// Computes the rank of each peer for an update, in the session with this id, with the broadcaster's secret. It counts one step for
+    /// each peer.
     pub fn fill<L: Ledger>(
         &mut self,
         id: &[u8; 8],
@@ -116,7 +116,7 @@ impl Ranks {
         fill_ranks(&mut self.ranks, id, secret, update, steps);
     }
 
-    /// Whether a peer is among the first so many by the ranks that were computed last. The block of that update goes to these.
+    /// Whether a peer is among the first `fanout` peers by the ranks that were computed last. That update's block is sent to these.
     pub fn is_sent_to(&self, fanout: u16, peer: u16) -> bool
         requires first { 1 ≤ peer }
         requires last { peer ≤ length self.now }

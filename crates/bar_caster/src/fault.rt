@@ -8,7 +8,7 @@ use std::alloc::AllocError;
 pub enum CasterFault {
     /// The stream has more bytes than the session has room for.
     TooLong { have: u64, room: u64 },
-    /// Memory was refused.
+    /// Memory allocation failed.
     NoMemory,
 }
 

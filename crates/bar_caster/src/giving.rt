@@ -1,14 +1,14 @@
-//! What a broadcaster gives out.
+//! The datagrams that a broadcaster gives out.
 ghost use Rattle.std.specs.Prelude.{◌≡◌, ◌<◌, ◌≤◌, ℕ, List, [], Some, MatchOption, length};
-ghost use Rattle.bar_core.specs.Orders.{left_in};
+ghost use Rattle.bar_core.specs.Code.Orders.{left_in};
 ghost use Rattle.bar_wire.specs.Datagram.{Datagram};
 ghost use Rattle.bar_wire.specs.Limits.{largest_datagram};
-ghost use Rattle.bar_rules.specs.Giving.{IsGiven, GivesNext};
+ghost use Rattle.bar_rules.specs.Code.Giving.{IsGiven, GivesNext};
 ghost use Rattle.bar_rules.specs.Peer.Log.{Log};
 ghost use Rattle.bar_rules.specs.Values.{datagram_bytes};
-ghost use Rattle.bar_caster.specs.Memory.{Represents, member_of, stream_of};
-ghost use Rattle.bar_caster.specs.Orders.{datagram_now};
-ghost use Rattle.bar_caster.specs.StandsFor.{Inputs, StandsFor, AreLeft};
+ghost use Rattle.bar_caster.specs.Code.Memory.{Represents, member_of, stream_of};
+ghost use Rattle.bar_caster.specs.Code.Orders.{datagram_now};
+ghost use Rattle.bar_caster.specs.Code.StandsFor.{Inputs, StandsFor, AreLeft};
 ghost use Rattle.bar_caster.specs.declared.item.Item.TheVariants.{Block};
 
 use crate::caster::Caster;
@@ -22,7 +22,7 @@ use bar_window::BLOCK_SIZE;
 use bar_wire::{BROADCASTER, Body, encode};
 
 impl Memory {
-    /// Writes the block with this index of this round's, for a peer, to the front of a buffer, and answers the length of the datagram.
+    /// Writes the BLOCK of this round with this index, for a peer, to the start of a buffer, and returns the length of the datagram.
     fn write_block(&self, peer: u16, index: u8, buf: &mut [u8]) -> usize
         requires room { largest_datagram ≤ length buf.old }
         ensures { (log : Log) (d : Datagram) → Represents log self.now
@@ -40,7 +40,7 @@ impl Memory {
         encode(BROADCASTER, peer, &body, &self.session.shape(), buf)
     }
 
-    /// Writes the datagram of an order to the front of a buffer, and answers its length, or `None` where there is none.
+    /// Writes the datagram of an order to the start of a buffer, and returns its length, or `None` if there is none.
     fn write(&self, order: Order, buf: &mut [u8]) -> Option<usize>
         requires room { largest_datagram ≤ length buf.old }
         ensures { (log : Log) (d : Datagram) → Represents log self.now
@@ -62,7 +62,7 @@ impl Memory {
 }
 
 impl<S: Scheme> Caster<S> {
-    /// Writes the next datagram to the front of a buffer, and answers its receiver and its length, or `None` where none is left.
+    /// Writes the next datagram to the start of a buffer, and returns its receiver and its length, or `None` if none is left.
     pub fn next_out(&mut self, buf: &mut [u8]) -> Option<(u16, usize)>
         requires room { largest_datagram ≤ length buf.old }
         ensures gives { (inputs : Inputs) (sends : List (ℕ × Datagram)) → StandsFor self.old.memory inputs

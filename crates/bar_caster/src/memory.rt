@@ -12,7 +12,8 @@ use bar_roster::{Session, round_after};
 use bar_seeds::Secrets;
 use bar_terms::Table;
 
-/// What a broadcaster knows: its session and secret, the stream, what it signed, and whom it evicted. All memory is taken when it is made.
+/// What a broadcaster knows: its session and secret, the stream, what it signed, and whom it evicted. All memory is allocated when it is
+/// made.
 #[derive(Drop)]
 pub struct Memory {
     pub session: Session,
@@ -22,9 +23,9 @@ pub struct Memory {
     pub ticks: u32,
     /// The lists of the rounds that have begun.
     pub table: Table,
-    /// The datagram of each round's manifest, as it was signed.
+    /// The datagram of each round's manifest, as signed.
     pub manifests: Rooms,
-    /// The datagram of the last notice of evictions, as it was signed.
+    /// The datagram of the last notice of evictions, as signed.
     pub notice: Room,
     pub evictions: Evictions,
     ghost same_session: { secrets.id ≡ session.shape.id },
@@ -44,7 +45,7 @@ impl Memory {
     ghost use Rattle.std.specs.Prelude.{◌≡◌, nat_le};
     ghost use Rattle.bar_session.specs.Time.{last_tick, round_after};
 
-    /// This round.
+    /// The current round.
     pub fn round(&self) -> u32
         ensures { result ≡ round_after self.now.ticks }
     {

@@ -1,11 +1,11 @@
-//! The broadcaster of a party's key.
+//! A broadcaster made from a party's key.
 ghost use Rattle.std.specs.Prelude.{◌≡◌, ◌*◌, ◌<◌, ◌≤◌, [], true, Err, IfErr, IfOk, length};
 ghost use Rattle.bar_hss.specs.Files.{IsPartyKeyOf};
-ghost use Rattle.bar_core.specs.Orders.{left_in};
+ghost use Rattle.bar_core.specs.Code.Orders.{left_in};
 ghost use Rattle.bar_wire.specs.Limits.{largest_content};
 ghost use Rattle.bar_rules.specs.Members.{member_by};
-ghost use Rattle.bar_caster.specs.Memory.{member_of, stream_of};
-ghost use Rattle.bar_caster.specs.StandsFor.{StandsFor};
+ghost use Rattle.bar_caster.specs.Code.Memory.{member_of, stream_of};
+ghost use Rattle.bar_caster.specs.Code.StandsFor.{StandsFor};
 ghost use Rattle.bar_caster.specs.declared.fault.CasterFault.TheVariants as faults;
 
 use crate::caster::Caster;
@@ -15,11 +15,11 @@ use bar_roster::Session;
 use std::alloc::Global;
 
 impl Caster<SessionScheme> {
-    /// The broadcaster of a session that a key is of, with its stream. It took no input yet.
+    /// The broadcaster that a party's key belongs to, in its session, with its stream, before any input.
     ///
     /// # Errors
     ///
-    /// Those of a start.
+    /// Those of `start`.
     pub fn of_key(
         alloc: Global,
         session: Session,

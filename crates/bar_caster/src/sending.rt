@@ -1,13 +1,13 @@
-//! What a broadcaster is to send, as orders.
+//! The orders for what a broadcaster sends.
 ghost use Rattle.std.specs.Prelude.{◌≡◌, ◌+◌, ◌*◌, ◌≤◌, ◌++◌, filter, length};
-ghost use Rattle.bar_core.specs.Orders.{HasSameRoom};
+ghost use Rattle.bar_core.specs.Code.Orders.{HasSameRoom};
 ghost use Rattle.bar_rules.specs.Broadcaster.Sending.{served};
 ghost use Rattle.bar_rules.specs.Broadcaster.Stream.{is_in_fanout, round_blocks};
 ghost use Rattle.bar_rules.specs.Peer.Log.{Log, round_now};
-ghost use Rattle.bar_caster.specs.Fanout.{AreRanksOf};
-ghost use Rattle.bar_caster.specs.Memory.{Represents, member_of, stream_of};
-ghost use Rattle.bar_caster.specs.Orders.{orders_to};
-ghost use Rattle.bar_caster.specs.Ticking.{block_orders, update_now};
+ghost use Rattle.bar_caster.specs.Code.Fanout.{AreRanksOf};
+ghost use Rattle.bar_caster.specs.Code.Memory.{Represents, member_of, stream_of};
+ghost use Rattle.bar_caster.specs.Code.Orders.{orders_to};
+ghost use Rattle.bar_caster.specs.Code.Ticking.{block_orders, update_now};
 ghost use Rattle.bar_caster.specs.declared.item.Item.TheVariants as items;
 
 use crate::fanout::Ranks;
@@ -34,7 +34,7 @@ pub fn send_to_all(memory: &Memory, orders: &mut Orders<Order>, item: Item)
     }
 }
 
-/// Sends the block of the update whose ranks these are to the peers of its fan-out that aren't evicted.
+/// Sends the block of the update that `ranks` is for to the peers of its fan-out that aren't evicted.
 fn send_block(memory: &Memory, ranks: &Ranks, orders: &mut Orders<Order>, index: u8)
     requires { length ranks.now ≡ memory.now.session.shape.peers }
     ensures sent { (log : Log) → Represents log memory.now → AreRanksOf (member_of memory.now) (update_now log index) ranks.now
@@ -53,7 +53,7 @@ fn send_block(memory: &Memory, ranks: &Ranks, orders: &mut Orders<Order>, index:
     }
 }
 
-/// Sends each block of this round to the peers of its fan-out that aren't evicted. It counts a step for each block and peer.
+/// Sends each block of this round to the peers of its fan-out that aren't evicted. It counts one step for each block and peer.
 pub fn send_blocks<L: Ledger>(
     memory: &Memory,
     ranks: &mut Ranks,

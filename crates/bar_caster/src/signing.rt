@@ -3,7 +3,7 @@ ghost use Rattle.std.specs.Prelude.{◌≡◌, ◌+◌, ◌<◌, ◌≤◌, ◌+
 
 use bar_seal::Scheme;
 
-/// Signs the message at the front of a buffer behind it, and answers the length of both.
+/// Appends its signature to the message at the start of a buffer, and returns the length of both.
 pub fn sign_behind<S: Scheme>(scheme: &S, leaf: u32, len: usize, buf: &mut [u8]) -> usize
     requires leaf { leaf < S.leaf_count scheme.now }
     requires room { len + S.Verifier.signature_len scheme.now ≤ length buf.old }

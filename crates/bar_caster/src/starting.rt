@@ -5,10 +5,10 @@ ghost use Rattle.bar_rules.specs.Broadcaster.Party.{IsBroadcaster};
 ghost use Rattle.bar_rules.specs.Members.{member_by};
 ghost use Rattle.bar_rules.specs.Signers.{IsSignerOf};
 ghost use Rattle.bar_rules.specs.Verifiers.{IsVerifierOf, NamesLeavesOf};
-ghost use Rattle.bar_core.specs.Orders.{left_in};
-ghost use Rattle.bar_caster.specs.Memory.{stream_of};
-ghost use Rattle.bar_caster.specs.StandsFor.{StandsFor};
-ghost use Rattle.bar_caster.specs.Ticking.{most_orders};
+ghost use Rattle.bar_core.specs.Code.Orders.{left_in};
+ghost use Rattle.bar_caster.specs.Code.Memory.{stream_of};
+ghost use Rattle.bar_caster.specs.Code.StandsFor.{StandsFor};
+ghost use Rattle.bar_caster.specs.Code.Ticking.{most_orders};
 ghost use Rattle.bar_caster.specs.declared.fault.CasterFault.TheVariants as faults;
 
 use crate::caster::Caster;
@@ -27,7 +27,7 @@ use bar_terms::Table;
 use bar_wire::LARGEST_DATAGRAM;
 use std::alloc::{AllocError, Global};
 
-/// How many orders an input gives at the most: the blocks of a round or, at its first slot, a manifest and a notice to each peer.
+/// An upper bound on the orders of an input: each block of a round, a manifest and a notice, to each peer.
 fn most_orders(session: &Session) -> usize
     ensures { result ≡ most_orders session.now }
 {
@@ -35,7 +35,7 @@ fn most_orders(session: &Session) -> usize
     (2 + usize::from(shape.per_round)) * usize::from(shape.peers)
 }
 
-/// A buffer of so many bytes.
+/// A buffer of `len` bytes.
 fn buffer(alloc: Global, len: usize) -> Result<Vec<u8>, AllocError>
     ensures { IfOk result (λ v. length v.items ≡ len) }
 {
@@ -43,7 +43,7 @@ fn buffer(alloc: Global, len: usize) -> Result<Vec<u8>, AllocError>
 }
 
 impl Memory {
-    /// The memory of a broadcaster that took no input yet. All of it is taken here, but for the stream's.
+    /// The memory of a broadcaster before any input. All of it is allocated here, except the stream's.
     fn make(
         alloc: Global,
         session: Session,
@@ -76,13 +76,12 @@ impl Memory {
 }
 
 impl<S: Scheme + Drop> Caster<S> {
-    /// The broadcaster of a session that took no input yet, with its secrets, what signs for it, and the stream. It takes all its memory
-    /// here.
+    /// The broadcaster of a session before any input, with its secrets, its signature scheme, and the stream. All memory is allocated here.
     ///
     /// # Errors
     ///
-    /// TooLong, with both numbers, exactly where the stream has more bytes than the session's rounds have room for; else NoMemory where
-    /// memory is refused.
+    /// `TooLong`, with both numbers, if and only if the stream has more bytes than the session's rounds have room for; else `NoMemory` if
+    /// an allocation fails.
     pub fn start(
         alloc: Global,
         session: Session,

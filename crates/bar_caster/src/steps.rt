@@ -1,12 +1,12 @@
-//! What a broadcaster does at an input.
+//! How a broadcaster takes an input.
 ghost use Rattle.std.specs.Prelude.{◌≡◌, ◌+◌, ◌*◌, ◌≤◌, ◌++◌, ◌∷◌, ◌↔◌, [], IsTrue, max, true};
-ghost use Rattle.bar_core.specs.Orders.{left_in};
+ghost use Rattle.bar_core.specs.Code.Orders.{left_in};
 ghost use Rattle.bar_wire.specs.Inputs.{plain_input};
 ghost use Rattle.bar_rules.specs.Broadcaster.Sending.{caster_step};
 ghost use Rattle.bar_laws.specs.Ignoring.{is_unread};
-ghost use Rattle.bar_caster.specs.Ignoring.{Ignores, StaysAsBefore};
-ghost use Rattle.bar_caster.specs.Memory.{IsOfTheSame, member_of, stream_of};
-ghost use Rattle.bar_caster.specs.StandsFor.{Inputs, StandsFor, AreLeft, log_of};
+ghost use Rattle.bar_caster.specs.Code.Ignoring.{Ignores, StaysAsBefore};
+ghost use Rattle.bar_caster.specs.Code.Memory.{IsOfTheSame, member_of, stream_of};
+ghost use Rattle.bar_caster.specs.Code.StandsFor.{Inputs, StandsFor, AreLeft, log_of};
 
 use crate::caster::Caster;
 use bar_bytes::Steps;
@@ -15,15 +15,15 @@ use bar_wire::Input;
 use std::sync::ledger::Ledger as StepLedger;
 
 impl<S: Scheme> Caster<S> {
-    /// Whether all that the last input gave is given out.
+    /// Whether all output of the last input was given out.
     pub fn idle(&self) -> bool
         ensures { IsTrue result ↔ (left_in self.now.orders ≡ []) }
     {
         self.orders.is_empty()
     }
 
-    /// Takes an input, once all that the one before gave is given out. After its last tick a broadcaster ignores every input. It takes no
-    /// memory, and counts each hash of signatures, seeds and ranks.
+    /// Takes an input, once all output of the previous one was given out. After its last tick a broadcaster ignores every input. It
+    /// allocates no memory, and counts each hash of signatures, seeds and ranks.
     pub fn step<L: StepLedger>(&mut self, input: Input<'_>, steps: &mut Steps<L>)
         requires sends { left_in self.old.orders ≡ [] }
         ensures stands { (inputs : Inputs) → StandsFor self.old.memory inputs
@@ -32,7 +32,7 @@ impl<S: Scheme> Caster<S> {
             → AreLeft self.new.memory self.new.orders (inputs ++ plain_input input.entry ∷ [])
             (caster_step (member_of self.old.memory) (stream_of self.old.memory) (log_of self.old.memory inputs)
             (plain_input input.entry)).sends }
-        // what isn't read changes nothing, nor does what shows no fault of a party that isn't evicted yet
+        // bytes that don't decode change nothing, nor does a datagram that shows no fault of a party that isn't evicted yet
         ensures unread { is_unread self.old.memory.session (plain_input input.entry) ≡ true
             → StaysAsBefore self.old.memory self.new.memory self.new.orders }
         ensures ignored { Ignores self.old.memory (plain_input input.entry) self.new.memory self.new.orders }

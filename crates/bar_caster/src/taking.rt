@@ -1,4 +1,4 @@
-//! What a broadcaster does at a datagram, and at a tick.
+//! How a broadcaster takes a datagram or a tick.
 ghost use Rattle.std.specs.Prelude.{◌≡◌, ◌+◌, ◌*◌, ◌<◌, ◌≤◌, [], List, ℕ, true, false};
 ghost use Rattle.bar_wire.specs.Datagram.{Evidence};
 ghost use Rattle.bar_wire.specs.Evidence.{IsEvidence};
@@ -10,11 +10,11 @@ ghost use Rattle.bar_rules.specs.Peer.Log.{Log};
 ghost use Rattle.bar_rules.specs.Values.{datagram_of};
 ghost use Rattle.bar_rules.specs.Verifiers.{IsVerifierOf, NamesLeavesOf};
 ghost use Rattle.bar_laws.specs.Ignoring.{is_news, is_unread};
-ghost use Rattle.bar_caster.specs.Ignoring.{IgnoresInput, IsAsBefore};
-ghost use Rattle.bar_caster.specs.Memory.{Represents, IsOfTheSame, member_of, stream_of};
-ghost use Rattle.bar_caster.specs.Orders.{HasOutcome};
-ghost use Rattle.bar_caster.specs.StandsFor.{Inputs, StandsFor, log_of};
-ghost use Rattle.bar_caster.specs.Ticking.{begins_round};
+ghost use Rattle.bar_caster.specs.Code.Ignoring.{IgnoresInput, IsAsBefore};
+ghost use Rattle.bar_caster.specs.Code.Memory.{Represents, IsOfTheSame, member_of, stream_of};
+ghost use Rattle.bar_caster.specs.Code.Orders.{HasOutcome};
+ghost use Rattle.bar_caster.specs.Code.StandsFor.{Inputs, StandsFor, log_of};
+ghost use Rattle.bar_caster.specs.Code.Ticking.{begins_round};
 
 use crate::caster::Caster;
 use crate::item::Item;
@@ -29,8 +29,8 @@ use bar_wire::{Body, HEADER_LEN, decode, split_evidence};
 use std::sync::ledger::Ledger as StepLedger;
 
 impl Memory {
-    /// Judges evidence, as the body of an EVIDENCE has it, under the lists of the rounds so far, and evicts the peer that it is shown
-    /// against. It counts each hash.
+    /// Judges evidence, encoded as the body of an EVIDENCE, under the lists of the rounds so far, and evicts the peer whose fault it shows.
+    /// It counts each hash.
     fn judge<V: Verifier, L: StepLedger>(
         &mut self,
         verifier: &V,
@@ -90,8 +90,8 @@ impl Memory {
 }
 
 impl<S: Scheme> Caster<S> {
-    /// Takes the tick that begins a round of the session: its manifest goes to each peer that isn't evicted, and then, where there are
-    /// evicted ones, a notice of these.
+    /// Takes the tick that begins a round of the session. It sends the round's manifest to each peer that isn't evicted and then, if some
+    /// peers are evicted, a notice of these.
     fn begin_round(&mut self)
         requires time { self.old.memory.ticks < last_tick self.old.memory.session }
         requires begins { begins_round self.old.memory.session self.old.memory.ticks ≡ true }
@@ -113,8 +113,8 @@ impl<S: Scheme> Caster<S> {
         send_to_all(&self.memory, &mut self.orders, Item::Evictions);
     }
 
-    /// Takes a tick that begins no round of the session: in slot 4 of a round the manifest goes out again, in slots 1 and 5 the blocks. In
-    /// version 3 the manifest of the round before goes out again in slot 2. It counts a step for each block and peer.
+    /// Takes a tick that begins no round of the session. In slot 4 of a round the manifest is sent again, in slots 1 and 5 the blocks are
+    /// sent. In version 3 the manifest of the previous round is sent again in slot 2. It counts one step for each block and peer.
     fn go_on<L: StepLedger>(&mut self, steps: &mut Steps<L>)
         requires time { self.old.memory.ticks < last_tick self.old.memory.session }
         requires begins { begins_round self.old.memory.session self.old.memory.ticks ≡ false }
@@ -144,7 +144,7 @@ impl<S: Scheme> Caster<S> {
         }
     }
 
-    /// Takes a tick. It counts a step for each block and peer.
+    /// Takes a tick. It counts one step for each block and peer.
     pub(crate) fn take_tick<L: StepLedger>(&mut self, steps: &mut Steps<L>)
         requires time { self.old.memory.ticks < last_tick self.old.memory.session }
         requires empty { self.old.orders.list.items ≡ [] }

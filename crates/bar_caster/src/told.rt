@@ -1,6 +1,6 @@
-//! What a broadcaster tells of itself.
+//! The public view of a broadcaster: its session, time, evictions and manifests.
 ghost use Rattle.std.specs.Prelude.{◌≡◌, ◌+◌, ℕ, None, Contains, length, nat_le, option_copied, option_map};
-ghost use Rattle.bar_bytes.specs.Rooms.{kept_in};
+ghost use Rattle.bar_bytes.specs.Code.Rooms.{kept_in};
 ghost use Rattle.bar_wire.specs.Evidence.{evidence_bytes};
 ghost use Rattle.bar_wire.specs.declared.kind.Kind.TheVariants.{Manifest};
 ghost use Rattle.bar_session.specs.Sessions.{IsSession};
@@ -8,8 +8,8 @@ ghost use Rattle.bar_rules.specs.Broadcaster.Sending.{evicted};
 ghost use Rattle.bar_session.specs.Time.{last_tick};
 ghost use Rattle.bar_rules.specs.Peer.Log.{kept, ticks};
 ghost use Rattle.bar_rules.specs.Values.{datagram_bytes};
-ghost use Rattle.bar_caster.specs.Memory.{said_of};
-ghost use Rattle.bar_caster.specs.StandsFor.{Inputs, StandsFor, log_of};
+ghost use Rattle.bar_caster.specs.Code.Memory.{said_of};
+ghost use Rattle.bar_caster.specs.Code.StandsFor.{Inputs, StandsFor, log_of};
 
 use crate::caster::Caster;
 use bar_bytes::Rooms;
@@ -18,7 +18,7 @@ use bar_seal::Scheme;
 use bar_wire::Shape;
 
 impl<S: Scheme> Caster<S> {
-    /// The numbers of the session's datagrams.
+    /// The sizes and limits of the session's datagrams.
     pub fn shape(&self) -> Shape
         ensures value { result ≡ self.now.memory.session.shape }
         ensures session { IsSession self.now.memory.session }
@@ -49,7 +49,7 @@ impl<S: Scheme> Caster<S> {
         self.memory.evictions.evicted()
     }
 
-    /// The first accepted evidence against an evicted party, as the body of an EVIDENCE has it, or `None` for every other number.
+    /// The first accepted evidence against an evicted party, encoded as the body of an EVIDENCE, or `None` for every other number.
     pub fn evidence(&self, party: u16) -> Option<&[u8]>
         ensures kept { (inputs : Inputs) → StandsFor self.now.memory inputs
             → option_copied result ≡ option_map evidence_bytes (kept (log_of self.now.memory inputs) party) }
@@ -60,7 +60,7 @@ impl<S: Scheme> Caster<S> {
         self.memory.evictions.evidence(party)
     }
 
-    /// The first accepted evidence against each evicted party, by its number, as the body of an EVIDENCE has it. No other number has any.
+    /// The first accepted evidence against each evicted party, by its number, encoded as the body of an EVIDENCE. Other numbers have none.
     pub fn kept_evidence(&self) -> &Rooms
         ensures kept { (inputs : Inputs) → StandsFor self.now.memory inputs → (party : ℕ)
             → kept_in result.now party ≡ option_map evidence_bytes (kept (log_of self.now.memory inputs) party) }
@@ -70,7 +70,7 @@ impl<S: Scheme> Caster<S> {
         self.memory.evictions.kept()
     }
 
-    /// The datagram of the manifest of a round, as it was signed, or `None` where none was.
+    /// The datagram of the manifest of a round, as signed, or `None` if none was signed.
     pub fn manifest(&self, round: u32) -> Option<&[u8]>
         ensures { (inputs : Inputs) → StandsFor self.now.memory inputs → option_copied result
             ≡ option_map (datagram_bytes self.now.memory.session) (said_of Manifest round (log_of self.now.memory inputs)) }

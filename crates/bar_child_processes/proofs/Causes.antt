@@ -1,4 +1,4 @@
--- Where the status of a session comes from.
+-- The child that determines the status of a session.
 use Rattle.std.proofs.Common.{◌≡◌, ◌⊎◌, ◌∷◌, ◌++◌, [], ℕ, ℤ, List, Bool, true, false, Result, Ok, Err, if◌then◌else◌, refl, ap, ◌∙◌, inl, inr, arith}
 use Rattle.std.specs.List.{list_any}
 use Rattle.std.proofs.lemmas.Bool.{or_left, or_right}
@@ -13,7 +13,7 @@ pub data Why (n : ℕ) (child : Child) : Type 0 where
   by_line : code_of_shown child.shown ≡ n → Why n child
   by_end : code_of_end child.shown child.ended ≡ n → Why n child
 
--- a child of the family that gives this status
+-- a child of the family that determines this status
 pub record Cause (n : ℕ) (family : List Child) : Type 0 where
   pub front : List Child
   pub child : Child
@@ -48,7 +48,7 @@ cause-of so_far n (child ∷ family) h =
       ]
     ]
 
--- some child of the family passes
+-- if this child of the family passes a test, some child does
 pub any-there : (test : Child → Bool) (family front back : List Child) (child : Child) → family ≡ front ++ child ∷ back →
     test child ≡ true → list_any test family ≡ true
 any-there test family front back child e h =
@@ -80,7 +80,7 @@ line-seven Untried h = absurd (omega (arith, h))
 abbrev pub IsPrintedFailure : Shown → Result ℤ ChildFault → Type 0
 IsPrintedFailure shown ended = (status : ℤ) × (ended ≡ Ok status) × (shown ≡ Whole) × (is_zero status ≡ false)
 
--- what an end gives, by whether it is 0
+-- the status that an end contributes, by whether it is 0
 abbrev pub code_unless : Bool → ℕ
 code_unless none = if none then 0 else 9
 

@@ -6,18 +6,18 @@ use Rattle.bar_child_processes.specs.Outcomes.{joined}
 
 -- ---- joined statuses
 
--- nothing was refused later
+-- nothing failed later
 pub joined-none : (first : ℕ) → joined first 0 ≡ first
 joined-none first = grind (arith, nat_tests)
 
--- a status comes from one of two
+-- a joined status is one of the two
 pub joined-from : (first later n : ℕ) → joined first later ≡ n → (first ≡ n) ⊎ (later ≡ n)
 joined-from first later n h = grind (arith, nat_tests)
 
 pub joined-zero : (first later : ℕ) → joined first later ≡ 0 → (first ≡ 0) × (later ≡ 0)
 joined-zero first later h = grind (arith, nat_tests)
 
--- want of memory before the others
+-- running out of memory takes precedence
 pub joined-memory : (first later : ℕ) → joined first later ≢ 70 → (first ≢ 70) × (later ≢ 70)
 joined-memory first later h = grind (arith, nat_tests)
 
@@ -39,7 +39,7 @@ pub code-zero : (first : ℕ) (status : ℤ) → status ≡ pos 0 →
 code-zero first status h =
     ap₂ joined (joined-none first) (ap (λ (b : Bool). if b then 0 else 9) (ap is_zero h)) ∙ joined-none first
 
--- another status that was printed
+-- a printed status other than 0
 pub code-other : (first : ℕ) (status : ℤ) → (status ≡ pos 0 → ⊥) →
     joined (joined first (code_of_shown Whole)) (code_of_end Whole (Ok status)) ≡ joined first 9
 code-other first status h = ap₂ joined (joined-none first) (ap (λ (b : Bool). if b then 0 else 9) (other-status status h))

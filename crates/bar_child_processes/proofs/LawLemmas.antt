@@ -1,9 +1,9 @@
--- What the status of a session says of its children.
+-- What the status of a session implies about its children.
 use Rattle.std.proofs.Common.{◌≡◌, ◌≢◌, ◌⊎◌, ◌+◌, ◌++◌, ◌==◌, ℕ, true, false, length, flat_map, pos, sym, ap, ◌∙◌, inl, inr, arith}
 use Rattle.std.specs.List.{list_any}
 use Rattle.std.proofs.lemmas.Bool.{cases_eq, or_left, or_parts, or_right}
 use Rattle.std.proofs.lemmas.Bool.Decides.{nat_tests}
-use Rattle.bar_outside.specs.Causes.{Rose}
+use Rattle.bar_outside.specs.Code.Causes.{Rose}
 use Rattle.bar_child_processes.specs.Family.{is_refused, is_refused_wait, status_line, with_children}
 use Rattle.bar_child_processes.specs.Laws.{DoneSessions, FailedOutputs, FailedSessions, FaultlessSessions, HasFailed, IsToldByChildren}
 use Rattle.bar_child_processes.specs.Sessions.{AreAllStarted}

@@ -1,11 +1,11 @@
--- What came of some children, and then of others.
+-- The calls, lines and status of some children, and then of others.
 use Rattle.std.proofs.Common.{◌≡◌, ◌≤◌, ◌∷◌, ◌++◌, ◌&&◌, [], ℕ, zero, suc, List, Bool, true, false, not, true≢false, IsTrue, if◌then◌else◌, map, take, refl, sym, ap, ap₂, ◌∙◌, subst, append-nil, append_assoc, inl, inr, arith}
 use Rattle.std.specs.List.{concat, list_any}
 use Rattle.std.proofs.lemmas.Bool.{or_cases, or_from, and_parts}
 use Rattle.std.proofs.lemmas.List.{map-append}
 use Rattle.std.proofs.lemmas.List.Folds.{concat-append, list_any-append}
-use Rattle.bar_outside.specs.Causes.{Rose}
-use Rattle.bar_outside.specs.Children.{Children}
+use Rattle.bar_outside.specs.Code.Causes.{Rose}
+use Rattle.bar_outside.specs.Code.Children.{Children}
 use Rattle.bar_outside.specs.Stream.{Stream}
 use Rattle.bar_child_processes.specs.Family.{Child, ReportData, Shown, Whole, Refused, Wanting, Untried, broken_line, broken_lines, has_status, is_broken, is_in_order, is_refused, is_refused_wait, is_tried, is_whole, line_of, prints_after, wait_of, whole_line, whole_lines, with_child, with_children}
 use Rattle.bar_child_processes.specs.Sessions.{Reports, ShowsLines, WaitsForEach, key_of}
@@ -53,7 +53,7 @@ prints_after-none : (xs : List Child) → prints_after false xs ≡ false
 prints_after-none [] = refl
 prints_after-none (x ∷ xs) = prints_after-none xs
 
--- nothing was broken while lines are printed
+-- if lines are still printed, no line was broken
 none-broken : (prints : Bool) (xs : List Child) → IsTrue (prints_after prints xs) → broken_lines xs ≡ []
 none-broken prints [] h = refl
 none-broken prints (x ∷ xs) h = by-shown (is_broken x.shown) refl (none-broken (prints && not (is_broken x.shown)) xs h)
@@ -70,7 +70,7 @@ untried Refused h = absurd (true≢false (sym h))
 untried Wanting h = absurd (true≢false (sym h))
 untried Untried h = (refl, refl)
 
--- nothing is printed any more
+-- if lines are no longer printed, no line is whole or broken
 silent : (xs : List Child) → IsTrue (is_in_order false xs) → (whole_lines xs ≡ []) × (broken_lines xs ≡ [])
 silent [] h = (refl, refl)
 silent (x ∷ xs) h =
@@ -91,7 +91,7 @@ whole-then : (old mid new first later rest : List ℕ) → mid ≡ old ++ (first
 whole-then old mid new first later rest h k =
     k ∙ (ap (λ b. b ++ (later ++ rest)) (h ∙ ap (λ b. old ++ b) (append-nil first)) ∙ simp append_assoc)
 
--- lines that may be broken, and then none
+-- lines the last of which may be broken, and then none
 broken-then : (old mid new first part : List ℕ) → mid ≡ old ++ (first ++ part) → new ≡ mid ++ ([] ++ []) →
     new ≡ old ++ ((first ++ []) ++ part)
 broken-then old mid new first part h k = k ∙ (append-nil mid ∙ (h ∙ ap (λ b. old ++ (b ++ part)) (sym (append-nil first))))

@@ -1,6 +1,6 @@
--- What came of one child.
+-- The calls, line and status of one child.
 use Rattle.std.proofs.Common.{◌≡◌, ◌∷◌, ◌&&◌, [], ℕ, ℤ, Bool, true, false, not, true≢false, Result, Ok, Err, IsTrue, refl, sym, ap, ◌∙◌, append-nil, arith}
-use Rattle.bar_outside.specs.Children.{Children, Waits}
+use Rattle.bar_outside.specs.Code.Children.{Children, Waits}
 use Rattle.bar_outside.specs.Stream.{Stream}
 use Rattle.bar_outside.specs.declared.spawner.ChildFault.{ChildFault}
 use Rattle.bar_outside.specs.declared.spawner.ChildFault.TheVariants as fault
@@ -34,7 +34,7 @@ waits-one party number (Err fault.NoMemory) shown old new w = record {
   calls = w.refused;
 }
 
--- no line
+-- no line was tried
 shows-none : (party number : ℕ) (ended : Result ℤ ChildFault) (out : Stream) →
     ShowsLines (record { party = party; number = number; ended = ended; shown = Untried } ∷ []) out out
 shows-none party number ended out = record {
@@ -54,7 +54,7 @@ prints-on : (prints : Bool) (broken : Bool) → IsTrue prints → (prints && not
 prints-on true broken h = refl
 prints-on false broken h = absurd (true≢false (sym h))
 
--- its status was printed, or its line refused
+-- its status was printed, or its line was refused
 pub reports-shown : (party number : ℕ) (status : ℤ) (was now : ReportData) (out_old out_new : Stream) (old new : Children) →
     Waits number old new (Ok status) → IsTrue was.prints → ShowsStatus party number status was now out_old out_new →
     Reports ((party, number) ∷ []) was now out_old out_new old new
@@ -80,7 +80,7 @@ pub none-refused : (prints : Bool) → (prints && false) ≡ false
 none-refused true = refl
 none-refused false = refl
 
--- nothing is printed any more
+-- lines are no longer printed
 pub reports-quiet : (party number : ℕ) (status : ℤ) (was : ReportData) (out : Stream) (old new : Children) →
     Waits number old new (Ok status) → was.prints ≡ false → Reports ((party, number) ∷ []) was was out out old new
 reports-quiet party number status was out old new w quiet = record {

@@ -1,15 +1,15 @@
--- Children that are running, while others are started and waited for.
+-- Children that keep running while others are started and waited for.
 use Rattle.std.proofs.Common.{◌≡◌, ◌∷◌, ◌++◌, ◌==◌, [], ℕ, ℤ, List, Bool, true, false, true≢false, Option, map, refl, sym, ap, ◌∙◌, subst, arith}
 use Rattle.std.specs.List.{list_any}
 use Rattle.std.proofs.lemmas.Bool.{or_from, or_left, or_parts}
 use Rattle.std.proofs.lemmas.Bool.Decides.{nat_tests}
 use Rattle.std.proofs.lemmas.List.Folds.{list_any-append}
-use Rattle.bar_outside.specs.Children.{ChildCall, IsRunning, Started, Waited, is_named, is_started, starts, waits}
+use Rattle.bar_outside.specs.Code.Children.{ChildCall, IsRunning, Started, Waited, is_named, is_started, starts, waits}
 use Rattle.bar_outside.proofs.OpenLemmas.{new-running}
 use Rattle.bar_child_processes.specs.Family.{Child, wait_of, status_in}
 use Rattle.bar_child_processes.specs.Sessions.{AreRunning, key_of}
 
--- ---- a call more
+-- ---- one more call
 
 same-reversed : (a b : ℕ) → (a == b) ≡ false → (b == a) ≡ false
 same-reversed a b h = grind (arith, nat_tests)
@@ -31,7 +31,7 @@ still-started calls child other words running = record {
   unwaited = list_any-append (waits child) calls (Started words other ∷ []) ∙ or_from _ _ running.unwaited refl;
 }
 
--- ---- children that aren't named
+-- ---- children that no call names
 
 not-started : (calls : List ChildCall) (child : ℕ) → is_named child calls ≡ false → is_started child calls ≡ false
 not-started [] child h = refl
@@ -40,7 +40,7 @@ not-started (Started words other ∷ calls) child h =
 not-started (Waited other status ∷ calls) child h =
     let parts = or_parts (other == child) (is_named child calls) h in not-started calls child parts.1
 
--- a child that was started is another than one that isn't named
+-- a child that was started differs from one that no call names
 is-other : (calls : List ChildCall) (child other : ℕ) → is_started child calls ≡ true → is_named other calls ≡ false →
     (other == child) ≡ false
 is-other calls child other started unnamed = by-same (other == child) refl
@@ -60,7 +60,7 @@ others-waited calls other status (n ∷ ns) differ running =
     let parts = or_parts (n == other) (list_any (λ m. m == other) ns) differ in
     (still-waited calls n other status parts.0 running.0, (running.1.0, others-waited calls other status ns parts.1 running.1.1))
 
--- the first of them was waited for
+-- the first child was waited for
 pub running-waited : (calls : List ChildCall) (family : List Child) (party n : ℕ) (ns : List ℕ) → map key_of family ≡ (party, n) ∷ [] →
     AreRunning calls (n ∷ ns) → AreRunning (calls ++ map wait_of family) ns
 running-waited calls [] party n ns are running = absurd cc
@@ -73,7 +73,7 @@ running-waited calls (child ∷ []) party n ns are running =
     cons-head e = cc
 running-waited calls (child ∷ next ∷ family) party n ns are running = absurd cc
 
--- one more was started
+-- one more child was started
 pub running-started : (calls : List ChildCall) (words : List (List ℕ)) (n : ℕ) (ns : List ℕ) → is_named n calls ≡ false →
     AreRunning calls ns → AreRunning (calls ++ Started words n ∷ []) (ns ++ n ∷ [])
 running-started calls words n [] unnamed running = (

@@ -1,17 +1,17 @@
--- Children that were started so far.
+-- The children started so far.
 use Rattle.std.proofs.Common.{◌≡◌, ◌≤◌, ◌∷◌, ◌++◌, [], ℕ, suc, List, Ok, map, length, length-append, refl, sym, ap, ◌∙◌, append-nil, append_assoc, arith}
 use Rattle.std.proofs.lemmas.List.{map-append}
-use Rattle.bar_outside.specs.Children.{ChildCall, Children, Started, Starts}
+use Rattle.bar_outside.specs.Code.Children.{ChildCall, Children, Started, Starts}
 use Rattle.bar_child_processes.specs.Names.{SessionNames}
 use Rattle.bar_child_processes.specs.Sessions.{AreRunning}
 use Rattle.bar_child_processes.specs.Words.{first_parties, party_at, words_of}
 use Rattle.bar_child_processes.proofs.Running.{running-started}
 
--- the start of a child of this party and number
+-- the start of a child for this party, with this number
 abbrev pub start_in : SessionNames → ℕ × ℕ → ChildCall
 start_in names key = Started (words_of names key.0) key.1
 
--- the first parties were started, as children of these numbers
+-- the first parties were started, as children with these numbers
 pub record Starting (names : SessionNames) (peers : ℕ) (started : List (ℕ × ℕ)) (old new : Children) : Type 0 where
   pub parties : map (λ key. key.0) started ≡ first_parties peers (length started)
   pub reliable : new.reliable ≡ old.reliable
@@ -28,7 +28,7 @@ starting-none names peers children = record {
   running = tt;
 }
 
--- one more
+-- one more child
 pub starting-more : (names : SessionNames) (peers : ℕ) (started : List (ℕ × ℕ)) (old mid new : Children) (party number : ℕ) →
     Starting names peers started old mid → Starts (words_of names party) mid new (Ok number) → party ≡ party_at peers (length started) →
     Starting names peers (started ++ (party, number) ∷ []) old new

@@ -14,7 +14,7 @@ use Rattle.bar_child_processes.proofs.Causes.{code_unless}
 use Rattle.bar_child_processes.proofs.Codes.{joined-memory, joined-none, joined-zero, zero-is}
 use Rattle.bar_child_processes.proofs.MoreChildren.{take-nil, whole_lines-append}
 
--- ---- each has a status, and its line wasn't broken
+-- ---- each child has a status, and its line wasn't broken
 
 abbrev HasStatusShown : Child → Type 0
 HasStatusShown child = (has_status child.ended ≡ true) × (is_broken child.shown ≡ false)
@@ -27,7 +27,7 @@ shown-one Refused (Ok status) h k tried = absurd (true≢false k)
 shown-one Wanting (Ok status) h k tried = absurd (true≢false k)
 shown-one _ (Err f) h k tried = absurd (true≢false (sym h))
 
--- then each was printed
+-- in that case each status was printed
 pub all-shown : (family : List Child) → IsTrue (is_in_order true family) → All HasStatusShown family → All IsShown family
 all-shown [] in_order told = All-nil IsShown
 all-shown (child ∷ family) in_order told =
@@ -80,7 +80,7 @@ line-kept Refused h k = absurd (true≢false k)
 line-kept Wanting h k = absurd (h refl)
 line-kept Untried h k = refl
 
--- so it is where nothing is refused and memory is not wanting
+-- the same if nothing is refused and memory doesn't run out
 pub kept-told : (so_far : ℕ) (family : List Child) → with_children so_far family ≢ 70 →
     list_any (λ child. is_refused_wait child.ended) family ≡ false → list_any (λ child. is_refused child.shown) family ≡ false →
     (so_far ≢ 70) × All HasStatusShown family
@@ -137,7 +137,7 @@ well-one child shown h =
 pub all-well : (family : List Child) → All IsShown family → All EndsWithZero family → All HasEndedWell family
 all-well family shown ends = λ k d h. well-one (get_or family k d) (shown k d h) (ends k d h)
 
--- what a printed status does to the session's
+-- the effect of a printed status on the session's status
 with-shown : (so_far : ℕ) (child : Child) (shown : IsShown child) → with_child so_far child ≡ joined so_far (code_unless (is_zero shown.0))
 with-shown so_far child shown =
     ap₂ (λ e s. joined (joined (joined so_far (code_of_wait e)) (code_of_shown s)) (code_of_end s e)) shown.1 shown.2
@@ -168,7 +168,7 @@ pub record Failure (family : List Child) : Type 0 where
 abbrev Ending : List Child → Type 0
 Ending family = ((with_children 0 family ≡ 0) × All HasEndedWell family) ⊎ ((with_children 0 family ≡ 9) × Failure family)
 
--- they tell the session's status
+-- the children determine the session's status
 pub shown-ending : (family : List Child) → All IsShown family → Ending family
 shown-ending [] shown = inl (refl, All-nil HasEndedWell)
 shown-ending (child ∷ family) shown =
@@ -210,7 +210,7 @@ shown-ending (child ∷ family) shown =
       },
     )
 
--- a child that failed, as it was printed
+-- the first child that failed, whose status was printed
 pub has-failed : (family : List Child) (old new : Stream) → ShowsLines family old new → Failure family → HasFailed family old new
 has-failed family old new shows f = record {
   child = f.child;

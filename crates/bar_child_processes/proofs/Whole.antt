@@ -5,7 +5,7 @@ use Rattle.std.proofs.lemmas.Bool.{or_cases, or_from}
 use Rattle.std.proofs.lemmas.Bool.Decides.{nat_tests}
 use Rattle.std.proofs.lemmas.List.{length-map}
 use Rattle.std.proofs.lemmas.Simd.{map-map}
-use Rattle.bar_outside.specs.Children.{Children}
+use Rattle.bar_outside.specs.Code.Children.{Children}
 use Rattle.bar_outside.specs.Stream.{Stream}
 use Rattle.bar_child_processes.specs.Family.{ReportData, is_refused_wait, start_of, wait_of}
 use Rattle.bar_child_processes.specs.Names.{SessionNames}
@@ -20,7 +20,7 @@ is-nine stop h = grind (arith, nat_tests)
 not-nine : (stop : ℕ) → (stop ≡ 9 → ⊥) → (stop == 9) ≡ false
 not-nine stop h = grind (arith, nat_tests)
 
--- children were started, and those waited for
+-- children were started, and the started ones were waited for
 pub session-ran : (names : SessionNames) (peers : ℕ) (keys : List (ℕ × ℕ)) (stop : ℕ) (now : ReportData) (out_old out_new : Stream)
     (old mid new : Children) → StartsAll names peers keys old mid stop →
     Reports keys (record { code = stop; prints = true }) now out_old out_new mid new →

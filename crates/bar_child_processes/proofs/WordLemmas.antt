@@ -1,4 +1,4 @@
--- The words of a peer.
+-- The arguments of a peer.
 use Rattle.std.proofs.Common.{◌≡◌, ◌<◌, ℕ, zero, suc, codes, refl, arith}
 use Rattle.bar_child_processes.specs.Names.{SessionNames}
 use Rattle.bar_child_processes.specs.Words.{peer_options, with_options, words_of}

@@ -1,8 +1,8 @@
--- What came of the children of a session.
+-- How the children of a session ended, and the resulting calls, lines and status.
 use Rattle.std.specs.Prelude.{◌&&◌, ℕ, zero, ℤ, pos, Bool, true, false, not, List, [], ◌∷◌, ◌++◌, codes, map, Option, Some, None, Result, Ok, Err, if◌then◌else◌}
 use Rattle.std.specs.List.{concat}
 use Rattle.std.specs.Fmt.{decimal, signed_decimal}
-use Rattle.bar_outside.specs.Children.{ChildCall, Started, Waited}
+use Rattle.bar_outside.specs.Code.Children.{ChildCall, Started, Waited}
 use Rattle.bar_outside.specs.declared.spawner.ChildFault.{ChildFault}
 use Rattle.bar_outside.specs.declared.spawner.ChildFault.TheVariants as fault
 use Rattle.bar_outside.specs.declared.sink.SinkFault.{SinkFault}
@@ -11,7 +11,7 @@ use Rattle.bar_child_processes.specs.Names.{SessionNames}
 use Rattle.bar_child_processes.specs.Outcomes.{code_of_fault, joined}
 use Rattle.bar_child_processes.specs.Words.{words_of}
 
--- what came of a line: it was printed, refused, or memory was wanting; or it wasn't tried
+-- what happened to a line: it was printed, refused, or memory ran out; or it wasn't tried
 pub data Shown : Type 0 where
   Whole : Shown
   Refused : Shown
@@ -26,7 +26,7 @@ shown_of (Err sink.NoMemory) = Wanting
 -- a child that was started and waited for
 pub record Child : Type 0 where
   pub party : ℕ
-  -- which child of the spawner
+  -- the child's number at the spawner
   pub number : ℕ
   pub ended : Result ℤ ChildFault
   pub shown : Shown
@@ -43,7 +43,7 @@ status_in (Err fault) = None
 abbrev pub wait_of : Child → ChildCall
 wait_of child = Waited child.number (status_in child.ended)
 
--- every start before the first wait, and one wait for each child
+-- all starts before the first wait, and one wait for each child
 abbrev pub calls_of : SessionNames → List Child → List ChildCall
 calls_of names family = map (start_of names) family ++ map wait_of family
 
@@ -87,7 +87,7 @@ abbrev pub has_status : Result ℤ ChildFault → Bool
 has_status (Ok status) = true
 has_status (Err fault) = false
 
--- a line is tried for each child that has a status, up to the first one that is broken
+-- a line is tried for each child that has a status, up to the first line that is broken
 abbrev pub is_in_order : Bool → List Child → Bool
 is_in_order prints [] = true
 is_in_order prints (child ∷ children) =
@@ -128,12 +128,12 @@ code_of_shown Refused = 7
 code_of_shown Wanting = 70
 code_of_shown Untried = 0
 
--- a status other than 0 counts where it was printed
+-- a status other than 0 counts if it was printed
 abbrev pub code_of_end : Shown → Result ℤ ChildFault → ℕ
 code_of_end Whole (Ok status) = if is_zero status then 0 else 9
 code_of_end _ _ = 0
 
--- the status with a child more: its wait, its line, and its end
+-- the status after one more child: its wait, its line, and its end
 abbrev pub with_child : ℕ → Child → ℕ
 with_child so_far child =
     joined (joined (joined so_far (code_of_wait child.ended)) (code_of_shown child.shown)) (code_of_end child.shown child.ended)

@@ -1,7 +1,7 @@
--- What follows of the status that a session ended with.
+-- Properties of the status with which a session ended.
 use Rattle.std.specs.Prelude.{◌≡◌, ◌≢◌, ◌+◌, ◌⊎◌, ◌++◌, ℕ, ℤ, pos, List, Ok, All, Contains, map, flat_map, IsTrue}
-use Rattle.bar_outside.specs.Causes.{Rose}
-use Rattle.bar_outside.specs.Children.{Children}
+use Rattle.bar_outside.specs.Code.Causes.{Rose}
+use Rattle.bar_outside.specs.Code.Children.{Children}
 use Rattle.bar_outside.specs.Stream.{Stream}
 use Rattle.bar_child_processes.specs.Family.{Child, Whole, calls_of, status_line, whole_lines}
 use Rattle.bar_child_processes.specs.Names.{SessionNames}
@@ -19,7 +19,7 @@ HasEndedWell child = child.ended ≡ Ok (pos 0)
 abbrev pub IsShown : Child → Type 0
 IsShown child = (status : ℤ) × (child.ended ≡ Ok status) × (child.shown ≡ Whole)
 
--- one of these children ended with another status than 0, which was printed
+-- one of these children ended with a status other than 0, which was printed
 pub record HasFailed (family : List Child) (out_old out_new : Stream) : Type 0 where
   pub child : Child
   pub of : Contains family child
@@ -28,7 +28,7 @@ pub record HasFailed (family : List Child) (out_old out_new : Stream) : Type 0 w
   pub other : status ≢ pos 0
   pub printed : (front back : List ℕ) × (out_new.bytes ≡ out_old.bytes ++ (front ++ (status_line child.party status ++ back)))
 
--- these children are all the parties, each was started and waited for and ended with 0, and this was printed of each
+-- these are the children of all parties; each was started, waited for and ended with 0, and these lines were printed
 pub record AllEndedWell (names : SessionNames) (peers : ℕ) (family : List Child) (out_old out_new : Stream) (old new : Children) :
     Type 0 where
   pub parties : map (λ child. child.party) family ≡ all_parties peers
@@ -36,7 +36,7 @@ pub record AllEndedWell (names : SessionNames) (peers : ℕ) (family : List Chil
   pub ended : All HasEndedWell family
   pub lines : out_new.bytes ≡ out_old.bytes ++ flat_map (λ party. status_line party (pos 0)) (all_parties peers)
 
--- these children are all the parties, the status of each was printed, and their statuses tell the session's
+-- these are the children of all parties; the status of each was printed, and their statuses determine the session's
 pub record IsToldByChildren (peers : ℕ) (family : List Child) (out_old out_new : Stream) (status : ℕ) : Type 0 where
   pub parties : map (λ child. child.party) family ≡ all_parties peers
   pub shown : All IsShown family
@@ -45,22 +45,22 @@ pub record IsToldByChildren (peers : ℕ) (family : List Child) (out_old out_new
 
 -- ---- the laws
 
--- 0 comes only where all children ended with 0
+-- 0 is returned only if all children ended with 0
 abbrev pub DoneSessions : Type 0
 DoneSessions = (names : SessionNames) (peers : ℕ) (out_old out_new : Stream) (old new : Children)
     (ran : SessionRan names peers out_old out_new old new 0) → AllEndedWell names peers ran.family out_old out_new old new
 
--- 9 comes only where the spawner's count rose, or a child failed
+-- 9 is returned only if the spawner's fault count rose, or a child failed
 abbrev pub FailedSessions : Type 0
 FailedSessions = (names : SessionNames) (peers : ℕ) (out_old out_new : Stream) (old new : Children)
     (ran : SessionRan names peers out_old out_new old new 9) → Rose old.faults new.faults ⊎ HasFailed ran.family out_old out_new
 
--- 7 comes only where the count of out rose
+-- 7 is returned only if the fault count of out rose
 abbrev pub FailedOutputs : Type 0
 FailedOutputs = (names : SessionNames) (peers : ℕ) (out_old out_new : Stream) (old new : Children) →
     SessionRan names peers out_old out_new old new 7 → Rose out_old.faults out_new.faults
 
--- where no call fails, the children tell the status, but for want of memory
+-- if no call fails, the children determine the status, unless memory runs out
 abbrev pub FaultlessSessions : Type 0
 FaultlessSessions = (names : SessionNames) (peers : ℕ) (out_old out_new : Stream) (old new : Children) (status : ℕ)
     (ran : SessionRan names peers out_old out_new old new status) → IsTrue old.reliable → IsTrue out_old.reliable →

@@ -3,5 +3,5 @@ pub mod Words
 pub mod Outcomes
 pub mod Family
 pub mod Sessions
-pub mod Views
+pub mod Code
 pub mod Laws

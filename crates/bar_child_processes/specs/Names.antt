@@ -1,8 +1,8 @@
--- What a session is made of.
+-- The arguments of a session.
 use Rattle.std.specs.Prelude.{ℕ, List}
 
--- the session's text, the front of the key files' names, the stream, the Unix time of the first tick in milliseconds as a word, the front
--- of the results' names, and the program that the children are
+-- the session's text, the prefix of the key files' names, the stream, the time of the first tick, the prefix of the results' names, and the
+-- program that the children run; the time is a Unix time in milliseconds, as text
 pub record SessionNames : Type 0 where
   pub session : List ℕ
   pub keys : List ℕ

@@ -15,6 +15,6 @@ abbrev pub code_of_fault : ChildFault → ℕ
 code_of_fault fault.Failed = 9
 code_of_fault fault.NoMemory = 70
 
--- the first refusal of two, but want of memory counts before the others
+-- the first failure of two, except that running out of memory takes precedence
 abbrev pub joined : ℕ → ℕ → ℕ
 joined first later = if later == 70 then 70 else if first == 0 then later else first

@@ -1,8 +1,8 @@
--- What a session does with its children.
+-- A session's run: it starts children, waits for them and prints their statuses.
 use Rattle.std.specs.Prelude.{◌≡◌, ◌≢◌, ◌≤◌, ◌+◌, ◌⊎◌, ◌||◌, ◌==◌, ℕ, ℤ, true, false, not, List, [], ◌∷◌, ◌++◌, Ok, length, map, take, IsTrue}
 use Rattle.std.specs.List.{list_any}
-use Rattle.bar_outside.specs.Causes.{Rose}
-use Rattle.bar_outside.specs.Children.{ChildCall, Children, IsRunning, Started}
+use Rattle.bar_outside.specs.Code.Causes.{Rose}
+use Rattle.bar_outside.specs.Code.Children.{ChildCall, Children, IsRunning, Started}
 use Rattle.bar_outside.specs.Stream.{Stream}
 use Rattle.bar_child_processes.specs.Family.{Child, ReportData, Shown, broken_lines, calls_of, code_of_end, code_of_shown, is_broken, is_in_order, is_refused, is_refused_wait, is_tried, prints_after, wait_of, whole_lines, with_children}
 use Rattle.bar_child_processes.specs.Outcomes.{joined}
@@ -47,12 +47,12 @@ pub record Reports (started : List (ℕ × ℕ)) (was now : ReportData) (out_old
   pub prints : now.prints ≡ prints_after was.prints family
   pub code : now.code ≡ with_children was.code family
 
--- these children are running, and differ
+-- these children are running and distinct
 abbrev pub AreRunning : List ChildCall → List ℕ → Type 0
 AreRunning calls [] = Unit {0}
 AreRunning calls (n ∷ ns) = IsRunning n calls × ((list_any (λ m. m == n) ns ≡ false) × AreRunning calls ns)
 
--- every child was started, or they were started up to a refused start: 0, or the status of this refusal
+-- 0 if every child was started; otherwise the children before a refused start were started, and this is its status
 abbrev pub AreAllStarted : ℕ → ℕ → ℕ → Type 0
 AreAllStarted peers started stop =
     ((stop ≡ 0) × (started ≡ peers + 1)) ⊎ (((stop ≡ 9) ⊎ (stop ≡ 70)) × (started ≤ peers))
@@ -68,12 +68,12 @@ pub record StartsAll (names : SessionNames) (peers : ℕ) (started : List (ℕ �
   pub calls : new.calls ≡ old.calls ++ map (λ key. Started (words_of names key.0) key.1) started
   pub running : AreRunning new.calls (map (λ key. key.1) started)
 
--- A session of so many peers started its children, waited for them and printed their statuses, and ended with this status.
+-- A session with this many peers started its children, waited for them and printed their statuses, and ended with this status.
 pub record SessionRan (names : SessionNames) (peers : ℕ) (out_old out_new : Stream) (old new : Children) (status : ℕ) : Type 0 where
   -- the children that were started, in order
   pub family : List Child
   pub parties : map (λ child. child.party) family ≡ first_parties peers (length family)
-  -- 0 where all were started, or the status of the start that was refused
+  -- 0 if all were started, or the status of the refused start
   pub stop : ℕ
   pub all : AreAllStarted peers (length family) stop
   pub calls : new.calls ≡ old.calls ++ calls_of names family

@@ -1,4 +1,4 @@
--- The words of a session's children, and the order in which they are started.
+-- The arguments of a session's children, and the order in which the children are started.
 use Rattle.std.specs.Prelude.{ℕ, suc, zero, List, [], ◌∷◌, ◌++◌, codes, nat_lt, if◌then◌else◌}
 use Rattle.std.specs.List.{flat_map}
 use Rattle.std.specs.Fmt.{decimal}
@@ -40,7 +40,7 @@ words_of names (suc p) = with_options names.program (codes "peer") (peer_options
 abbrev pub party_at : ℕ → ℕ → ℕ
 party_at peers place = if nat_lt place peers then suc place else 0
 
--- the first of these
+-- the first parties in this order
 abbrev pub first_parties : ℕ → ℕ → List ℕ
 first_parties peers zero = []
 first_parties peers (suc n) = first_parties peers n ++ party_at peers n ∷ []

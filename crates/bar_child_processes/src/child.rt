@@ -1,4 +1,4 @@
-/// A child that was started: the party that it is, and which child of the spawner.
+/// A child that was started: its party, and its number at the spawner.
 #[derive(Clone, Copy, Debug)]
 pub struct Child {
     pub party: u16,

@@ -1,9 +1,9 @@
-//! A session's children: all are started, then each is waited for.
+//! A session's children: all are started, and then each is waited for.
 ghost use Rattle.std.specs.Prelude.{◌≡◌, ◌≤◌, ◌+◌, length, map, vec_capacity, IsTrue};
-ghost use Rattle.bar_outside.specs.Children.{Starts};
+ghost use Rattle.bar_outside.specs.Code.Children.{Starts};
 ghost use Rattle.bar_child_processes.specs.Outcomes.{code_of};
 ghost use Rattle.bar_child_processes.specs.Sessions.{AreRunning, Reports, SessionRan, StartsAll};
-ghost use Rattle.bar_child_processes.specs.Views.{key_in, names_view, report_view};
+ghost use Rattle.bar_child_processes.specs.Code.Views.{key_in, names_view, report_view};
 ghost use Rattle.bar_child_processes.specs.Words.{party_at, words_of};
 
 use crate::child::Child;
@@ -25,7 +25,7 @@ fn party_at(place: usize, peers: u16) -> u16
     }
 }
 
-// Starts the child that is this party.
+// Starts the child for this party.
 fn start_child<S: Spawner>(
     alloc: Global,
     names: &SessionNames<'_>,
@@ -40,7 +40,7 @@ fn start_child<S: Spawner>(
     spawn.start(&words)
 }
 
-// Starts a child for each party, up to a start that is refused, whose outcome is answered.
+// Starts a child for each party, up to a refused start, whose outcome is returned.
 fn start_all<S: Spawner>(
     alloc: Global,
     names: &SessionNames<'_>,
@@ -84,8 +84,8 @@ fn wait_for_all<K: Sink, S: Spawner>(
     }
 }
 
-/// Starts a child for each peer and then one for the broadcaster, waits for all that were started in this order, and prints the status of
-/// each after its wait. After a refused start no other child is started, and after a refused line no other is printed.
+/// Starts a child for each peer and then one for the broadcaster. Then it waits for all started children in this order, and prints each
+/// status after the wait. After a refused start no other child is started. After a refused line no other line is printed.
 pub fn run_children<K: Sink, S: Spawner>(
     alloc: Global,
     names: &SessionNames<'_>,

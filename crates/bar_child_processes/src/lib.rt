@@ -1,4 +1,4 @@
-//! The child programs of a session: they are started by their words, waited for in the same order, and the status of each is printed.
+//! The child programs of a session: they are started, waited for in the same order, and the status of each is printed.
 #![tactic(auto)]
 
 mod child;

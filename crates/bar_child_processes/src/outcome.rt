@@ -17,7 +17,7 @@ pub enum Outcome {
 }
 
 impl Outcome {
-    /// The first refusal of two, but want of memory counts before the others.
+    /// The first failure of two, except that running out of memory takes precedence.
     pub fn joined(self, later: Outcome) -> Outcome
         ensures { code_of result ≡ joined (code_of self) (code_of later) }
     {

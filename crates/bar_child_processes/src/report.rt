@@ -1,17 +1,17 @@
 //! Waiting for children and printing their statuses.
 ghost use Rattle.std.specs.Prelude.{◌≡◌, ◌∷◌, [], ℕ, Ok, IfOk, string_bytes, IsTrue};
-ghost use Rattle.bar_outside.specs.Children.{IsRunning};
+ghost use Rattle.bar_outside.specs.Code.Children.{IsRunning};
 ghost use Rattle.bar_child_processes.specs.Family.{shown_of, status_line};
 ghost use Rattle.bar_child_processes.specs.Outcomes.{code_of, joined};
 ghost use Rattle.bar_child_processes.specs.Sessions.{Reports, ShowsLines, ShowsStatus};
-ghost use Rattle.bar_child_processes.specs.Views.{report_view};
+ghost use Rattle.bar_child_processes.specs.Code.Views.{report_view};
 
 use crate::child::Child;
 use crate::outcome::{Outcome, outcome_of};
 use bar_outside::{Sink, SinkFault, Spawner};
 use std::alloc::{AllocError, Global};
 
-/// What is told of the children so far: how the session ends, and whether lines are still printed, which they are up to the first refused
+/// The report on the children so far: how the session ends, and whether lines are still printed. Lines are printed up to the first refused
 /// one.
 #[derive(Clone, Copy, Debug)]
 pub struct Report {
@@ -42,7 +42,7 @@ fn print_status<K: Sink>(
 }
 
 impl Report {
-    // An outcome more.
+    // Adds an outcome.
     fn note(&mut self, later: Outcome)
         ensures { report_view self.new ≡
             record { code = joined (report_view self.old).code (code_of later); prints = (report_view self.old).prints } }
@@ -50,7 +50,7 @@ impl Report {
         self.outcome = self.outcome.joined(later);
     }
 
-    // Prints a child's status. A status other than 0 counts where it was printed.
+    // Prints a child's status. A status other than 0 counts if it was printed.
     fn show<K: Sink>(&mut self, alloc: Global, party: u16, status: i32, out: &mut K)
         ensures { (number : ℕ) → IsTrue (report_view self.old).prints →
             ShowsStatus party number status (report_view self.old) (report_view self.new) (K.stream out.old) (K.stream out.new) }
@@ -71,7 +71,7 @@ impl Report {
         }
     }
 
-    /// Waits for a child, and prints its status while lines are printed.
+    /// Waits for a child, and prints its status if lines are still printed.
     pub fn wait_for<K: Sink, S: Spawner>(
         &mut self,
         alloc: Global,

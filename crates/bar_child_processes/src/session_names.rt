@@ -1,5 +1,5 @@
-/// What a session is made of: its text, the front of its key files' names, its stream, the Unix time of its first tick in milliseconds as a
-/// word, the front of its results' names, and the program that its children are.
+/// The arguments of a session: its text, the prefix of its key files' names, its stream, the Unix time of its first tick in milliseconds as
+/// text, the prefix of its results' names, and the program that its children run.
 #[derive(Clone, Copy, Debug)]
 pub struct SessionNames<'a> {
     pub session: &'a str,

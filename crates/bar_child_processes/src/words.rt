@@ -1,6 +1,6 @@
-//! The words of a child.
+//! The arguments of a child.
 ghost use Rattle.std.specs.Prelude.{◌≡◌, ◌++◌, ◌∷◌, [], ◌<◌, codes, length, map, string_bytes, IfOk, OnOk};
-ghost use Rattle.bar_child_processes.specs.Views.{names_view};
+ghost use Rattle.bar_child_processes.specs.Code.Views.{names_view};
 ghost use Rattle.bar_child_processes.specs.Words.{named, words_of};
 
 use crate::session_names::SessionNames;
@@ -23,7 +23,7 @@ fn first_words(alloc: Global, program: &str, command: &str) -> Result<Vec<String
     Ok(words)
 }
 
-// An option and its value behind other words.
+// Appends an option and its value.
 fn push_option(
     alloc: Global,
     words: &mut Vec<String>,
@@ -74,7 +74,7 @@ fn caster_words(alloc: Global, names: &SessionNames<'_>) -> Result<Vec<String>, 
     Ok(words)
 }
 
-/// The words of the child that is this party, of which there is at least one.
+/// The arguments of the child for this party. There is at least one.
 pub fn child_words(
     alloc: Global,
     names: &SessionNames<'_>,

@@ -1,4 +1,4 @@
--- Of two facts one stands, so where the first doesn't, the second does.
+-- If one of two facts holds and the first doesn't, the second does.
 use Rattle.std.proofs.Common.{◌⊎◌, inl, inr}
 
 pub second-stands : {A B : Type 0} → A ⊎ B → (A → ⊥) → B

@@ -1,4 +1,4 @@
--- Recordings are read one after another, and what is told of them.
+-- Recordings are read one after the other, and a report on them is printed.
 use Rattle.std.proofs.Common.{append-nil, append_assoc, ◌≡◌, ◌<◌, ◌≤◌, ◌+◌, ◌-◌, ℕ, suc, zero, Bool, true, false, List, [], ◌∷◌, ◌++◌, Vec, Option, Some, None, length, Ok, Err, refl, sym, ap, ◌∙◌, subst, take, arith}
 use Rattle.std.specs.Prelude.{option_map, slice_get}
 use Rattle.std.specs.Bool.{then_some}
@@ -7,7 +7,7 @@ use Rattle.std.specs.Option.{ok_or}
 use Rattle.std.specs.declared.alloc.Global.{Global}
 use Rattle.bar_outside.specs.Disk.{Content, Disk, Reads}
 use Rattle.bar_outside.specs.Ends.{EndsWith}
-use Rattle.bar_outside.specs.Faults.{code_of_fault, fault_of_file, line_of_fault}
+use Rattle.bar_outside.specs.Code.Faults.{code_of_fault, fault_of_file, line_of_fault}
 use Rattle.bar_outside.specs.Plan.{Outside, Plan, no_memory, with_files}
 use Rattle.bar_outside.specs.declared.files.FileFault.{FileFault}
 use Rattle.bar_outside.proofs.Ending.{EndsWith-ending, EndsWith-memory, EndsWith-unread}
@@ -28,18 +28,18 @@ use Rattle.bar_cli.specs.Audit.Plan.{AuditFiles, Leaves, all_parties, all_plan, 
 use Rattle.bar_cli.specs.Audit.Text.{text_for}
 use Rattle.bar_cli.specs.Refusals.{parties_refused, recording_refused}
 
--- how many parties there are
+-- the number of parties
 abbrev pub count : AuditFiles → ℕ
 count names = suc (names.last - names.first)
 
--- those from a place on
+-- the parties from a place on
 abbrev pub parties_left : AuditFiles → ℕ → List ℕ
 parties_left names place = range_with_len (names.first + place) (count names - place)
 
 abbrev pub left_plan : AuditFiles → SessionData → ℕ → List Recording → Content → Plan
 left_plan names s place given = plan_by (recordings_stages names.results s (parties_left names place) given)
 
--- the recordings before a place were accepted and given to the auditor, and the rest is left
+-- the recordings before a place were accepted and given to the auditor, and the others are left
 pub record Gathered (names : AuditFiles) (s : SessionData) (place : ℕ) (audit : Audit) (old now : Disk) : Type 0 where
   pub recordings : List Recording
   pub knows : Audits s recordings audit
@@ -71,11 +71,11 @@ next-party first place n within =
 
 module _ (names : AuditFiles) (s : SessionData) (place : ℕ) (audit : Audit) (old now : Disk)
     (g : Gathered names s place audit old now) where
-  -- memory is wanting
+  -- memory ran out
   pub gathered-memory : (w : Outside) → EndsWith (all_plan names s) (with_files w old) (with_files w now) 70 no_memory
   gathered-memory w = g.leaves w (with_files w now) 70 no_memory (EndsWith-memory (left_plan names s place g.recordings) (with_files w now))
 
-  -- nothing is left
+  -- no recording is left
   pub gathered-all : count names ≤ place → (w : Outside) →
       Leaves (all_plan names s) (telling_plan s g.recordings) (with_files w old) (with_files w now)
   gathered-all past w =
@@ -96,7 +96,7 @@ module _ (names : AuditFiles) (s : SessionData) (place : ℕ) (audit : Audit) (o
         subst (λ parties. Leaves (all_plan names s) (plan_by (recordings_stages names.results s parties g.recordings)) (with_files w old) (with_files w now))
         (next-party names.first place (count names) within) (g.leaves w)
 
-    -- it wasn't read
+    -- the read failed
     pub gathered-unread : (mid : Disk) (cause : FileFault) → Reads (recording_name names.results party) now mid (Err cause) →
         (w : Outside) → EndsWith (all_plan names s) (with_files w old) (with_files w mid)
         (code_of_fault (fault_of_file cause)) (line_of_fault (fault_of_file cause))
@@ -108,7 +108,7 @@ module _ (names : AuditFiles) (s : SessionData) (place : ℕ) (audit : Audit) (o
       abbrev others : List Input → Stages
       others inputs = recordings_stages names.results s after (g.recordings ++ (record { party = party; inputs = inputs }) ∷ [])
 
-      -- memory is wanting behind it
+      -- memory ran out after the read
       pub gathered-late : (w : Outside) → EndsWith (all_plan names s) (with_files w old) (with_files w mid) 70 no_memory
       gathered-late w =
           next-leaves w (with_files w mid) 70 no_memory
@@ -137,19 +137,19 @@ module _ (names : AuditFiles) (s : SessionData) (place : ℕ) (audit : Audit) (o
 
 -- ---- the parties
 
--- whether they are a range, as it is tested
+-- whether the parties are a valid range, as the code tests it
 pub range-is : (names : AuditFiles) (some shape : Shape) (tested is : Bool) → some ≡ shape → tested ≡ is_range names some.peers →
     tested ≡ is → is_range names shape.peers ≡ is
 range-is names some shape tested is same test e = sym (ap (λ (shape : Shape). is_range names shape.peers) same) ∙ (sym test ∙ e)
 
--- they are refused
+-- the parties are refused
 pub refused-parties : (names : AuditFiles) (s : SessionData) (old : Outside) → is_range names s.shape.peers ≡ false →
     EndsWith (plan_by (parties_stages names s)) old old 8 parties_refused
 refused-parties names s old none =
     EndsWith-refuses (parties_of names s) (λ parties. recordings_stages names.results s parties []) (λ _. refuses 8 parties_refused) _ _ _ _ tt
     (ap (λ b. ok_or (then_some b (all_parties names)) (tt {0})) none) (EndsWith-ending 8 parties_refused old refl)
 
--- or accepted
+-- the parties are accepted
 pub accepted-parties : (names : AuditFiles) (s : SessionData) (old new : Outside) (status : ℕ) (line : List ℕ) →
     is_range names s.shape.peers ≡ true → EndsWith (all_plan names s) old new status line →
     EndsWith (plan_by (parties_stages names s)) old new status line
@@ -157,7 +157,7 @@ accepted-parties names s old new status line range h =
     EndsWith-accepts (parties_of names s) (λ parties. recordings_stages names.results s parties []) (λ _. refuses 8 parties_refused) _ _ _ _
     (all_parties names) (ap (λ b. ok_or (then_some b (all_parties names)) (tt {0})) range) h
 
--- ---- what is told
+-- ---- the report
 
 take-next : {A : Type 0} (xs : List A) (k : ℕ) (x : A) → slice_get xs k ≡ Some x → take (suc k) xs ≡ take k xs ++ x ∷ []
 take-next [] k x e = cc
@@ -168,14 +168,14 @@ flat_map-one : {A B : Type 0} (f : A → List B) (xs : List A) (x : A) → flat_
 flat_map-one f [] x = append-nil (f x)
 flat_map-one f (y ∷ ys) x = ap (λ zs. f y ++ zs) (flat_map-one f ys x) ∙ sym (append_assoc (f y) (flat_map f ys) (f x))
 
--- the text of one element more
+-- the text with one more element
 pub text-more : {A B : Type 0} (f : A → List B) (xs : List A) (k : ℕ) (x : A) → slice_get xs k ≡ Some x →
     flat_map f (take (k + 1) xs) ≡ flat_map f (take k xs) ++ f x
 text-more f xs k x e =
     let next : k + 1 ≡ suc k = omega arith in
     ap (λ n. flat_map f (take n xs)) next ∙ (ap (flat_map f) (take-next xs k x e) ∙ flat_map-one f (take k xs) x)
 
--- the line of a number is that of the exchange there
+-- the line with this number is that of the exchange there
 pub line-there : (f : Exchange → Line) (xs : List Exchange) (k : ℕ) (line : Line) → Some line ≡ option_map f (slice_get xs k) →
     (x : Exchange) × (slice_get xs k ≡ Some x) × (line ≡ f x)
 line-there f xs k line e = go (slice_get xs k) refl e
@@ -189,7 +189,7 @@ line-missing f [] k e l = omega (arith, l)
 line-missing f (x ∷ xs) zero e l = cc
 line-missing f (x ∷ xs) (suc k) e l = line-missing f xs k e (omega (arith, l))
 
--- so it is of the one list of the recorded exchanges
+-- the report is that of the one list of recorded exchanges
 pub text-told : (s : SessionData) (recordings : List Recording) (text : List ℕ) (xs : List Exchange) → text ≡ text_for s recordings xs →
     xs ≡ recorded s recordings → text ≡ audit_text s recordings
 unfolding audit_text

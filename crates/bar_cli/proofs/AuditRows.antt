@@ -1,4 +1,4 @@
--- The rows of the status table, from how `audit` ended.
+-- The rows of the status table, derived from how `audit` ended.
 use Rattle.std.proofs.Common.{append-nil, append_assoc, ◌≡◌, ◌≢◌, ◌⊎◌, ◌==◌, ℕ, List, [], ◌∷◌, ◌++◌, Option, None, Some, true, false, IsTrue, refl, sym, ap, ◌∙◌, subst, inl, inr, map}
 use Rattle.std.specs.List.{AllByRecursion}
 use Rattle.std.proofs.lemmas.List.{map-append}
@@ -63,7 +63,7 @@ within names =
 pub unlinked-plan : (names : AuditFiles) (content : Content) → IsUnlinked (audit_plan names content).actions
 unlinked-plan names content = unlinked-within (IsAuditCall names) (audit_stages names) content (within names)
 
--- ---- one recording more
+-- ---- one more recording
 
 abbrev parties_in : List Recording → List ℕ
 parties_in recordings = map (λ (r : Recording). r.party) recordings
@@ -76,13 +76,13 @@ has-more results content s before given r h k = record {
   each = AllByRecursion-push (HasRecording results content s) given r h.each k;
 }
 
--- a property of stages that goes through a recording that is accepted
+-- a property of stages that is preserved by a recording that is accepted
 abbrev GoesThrough : List ℕ → Content → SessionData → (List ℕ → List Recording → Type 0) → Type 0
 GoesThrough results content s P =
     (r : Recording) (left : List ℕ) (given : List Recording) → HasRecording results content s r → P left (given ++ r ∷ []) →
     P (r.party ∷ left) given
 
--- goes through several
+-- if a property is preserved by one recording, it is preserved by several
 through : (results : List ℕ) (content : Content) (s : SessionData) (P : List ℕ → List Recording → Type 0) → GoesThrough results content s P →
     (rs : List Recording) (left : List ℕ) (given : List Recording) → AllByRecursion (HasRecording results content s) rs → P left (given ++ rs) →
     P (parties_in rs ++ left) given
@@ -91,7 +91,7 @@ through results content s P one (r ∷ rs) left given h p =
     one r (parties_in rs ++ left) given h.0
     (through results content s P one rs left (given ++ r ∷ []) h.1 (subst (P left) (sym (append_assoc given (r ∷ []) rs)) p))
 
--- ---- to which end they come
+-- ---- the end to which the stages lead
 
 module _ (names : AuditFiles) (content : Content) where
   abbrev HasOne : SessionData → Recording → Type 0
@@ -160,7 +160,7 @@ module _ (names : AuditFiles) (content : Content) where
       (λ inputs. recordings_stages names.results s next.after (next.recordings ++ (record { party = party; inputs = inputs }) ∷ []))
       content none))))
 
-  -- what was refused, by the status
+  -- the cause of a refusal, by the status
   abbrev pub Causes : ℕ → Type 0
   Causes status =
       cause_at (status == 4) ((fault : SessionFault) × HasBadSession names.session content fault)
@@ -227,7 +227,7 @@ module _ (names : AuditFiles) (old new : Outside) (status : ℕ) (told : IsTrue 
       says-in-order (Causes names content) lines final old new status (λ a. balance-small (balance_in names content a)) (λ why. why)
       (λ why. why) (audit_stages names) told (sorts names content) order.gone
 
-  -- all was told, with this balance
+  -- the whole report was printed, with this balance
   audited : IsListed → KeysArePaid → (balance : Option Exchange) (a : AuditAccepted names content) →
       new.out.bytes ≡ old.out.bytes ++ lines a → balance_in names content a ≡ balance → Audited names balance old new
   unfolding audit_text balance_of
@@ -245,7 +245,7 @@ module _ (names : AuditFiles) (old new : Outside) (status : ℕ) (told : IsTrue 
         files = audit-order.files;
       }
 
-  -- obedient parties are balanced
+  -- the exchanges of obedient parties are balanced
   obedient : IsListed → RunsAreBalanced → (a : AuditAccepted names content) (secrets : ℕ → List ℕ) →
       AreOfRuns a.session secrets a.recordings → final a ≡ 0
   unfolding balance_of

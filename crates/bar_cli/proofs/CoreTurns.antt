@@ -1,4 +1,4 @@
--- A replay of a peer as a core is its turns by the rules.
+-- A replay of a peer as a core equals its turns by the rules.
 use Rattle.std.proofs.Common.{◌≡◌, ℕ, ◌+◌, List, [], ◌∷◌, ◌++◌, refl, ap, ◌∙◌, map, length, arith}
 use Rattle.std.specs.List.{flat_map}
 use Rattle.std.proofs.lemmas.List.{length-append}
@@ -11,10 +11,10 @@ use Rattle.bar_rules.specs.Peer.Log.{Log}
 use Rattle.bar_rules.specs.Peer.Run.{Out, log_after, step}
 use Rattle.bar_rules.proofs.LongerRuns.{state_after_both}
 use Rattle.bar_core.specs.Rules.{Send}
-use Rattle.bar_node.specs.Turns as node
+use Rattle.bar_node.specs.Code.Turns as node
 use Rattle.bar_peer.specs.Core.{peer_rules}
 use Rattle.bar_cli.specs.Replay.Transcript.{lines_of_sends}
-use Rattle.bar_cli.specs.Replay.Turns.{turn_actions, turn_of, turns_actions, turns_from}
+use Rattle.bar_cli.specs.Code.Turns.{turn_actions, turn_of, turns_actions, turns_from}
 
 -- each content is appended
 contents-appended : (played : List ℕ) (contents : List (List ℕ)) →
@@ -22,11 +22,11 @@ contents-appended : (played : List ℕ) (contents : List (List ℕ)) →
 contents-appended played [] = refl
 contents-appended played (x ∷ xs) = ap (λ rest. append played x ∷ rest) (contents-appended played xs)
 
--- a datagram that is sent, with its bytes
+-- a datagram that is sent, as bytes
 abbrev packet : Session → ℕ × Datagram → Send
 packet s send = (send.0, datagram_bytes s send.1)
 
--- and the line of each datagram is shown
+-- the line of each datagram is shown
 lines-shown : (s : Session) (number : ℕ) (sends : List (ℕ × Datagram)) →
     flat_map (node.shown_line number) (map (packet s) sends) ≡ map show (lines_of_sends s number sends)
 lines-shown s number [] = refl
@@ -43,7 +43,7 @@ core-turn played me before input =
     (contents-appended played out.contents)
     ∙ ap (λ acts. map (append played) out.contents ++ acts) (lines-shown me.session (length before + 1) out.sends)
 
--- those of inputs behind others
+-- the turns of inputs after others
 pub core-turns : (played : List ℕ) (me : Member) (before inputs : List Input) →
     node.turns (node.replay_layout played) (peer_rules me) before inputs
     ≡ turns_actions played (turns_from me (length before + 1) (log_after me [] before) inputs)

@@ -1,4 +1,4 @@
--- The datagrams of an evidence file, and the lists of a table file, as they are read.
+-- Reading the datagrams of an evidence file and the lists of a table file.
 use Rattle.std.proofs.Common.{◌≡◌, ◌⊎◌, inl, inr, ℕ, List, Option, Some, None, Result, Ok, Err, sym, ap, ◌∙◌}
 use Rattle.std.specs.Prelude.{option_map}
 use Rattle.std.specs.Option.{ok_or}
@@ -14,7 +14,7 @@ use Rattle.bar_cli.specs.Judge.Judging.{IsTableOf, lists_of, or_place, place_of,
 
 -- ---- evidence
 
--- datagrams that were found or not
+-- datagrams that were found
 pub found : (r : Option EvidenceView) (v : EvidenceView) (o : Option (List (List ℕ))) → r ≡ Some v → option_map datagrams_of r ≡ o →
     ok_or o (tt {0}) ≡ Ok (datagrams_of v)
 found r v o is e = ap (λ x. ok_or x (tt {0})) (sym e ∙ ap (option_map datagrams_of) is)
@@ -25,14 +25,14 @@ unfound r o is e = ap (λ x. ok_or x (tt {0})) (sym e ∙ ap (option_map datagra
 
 -- ---- tables
 
--- a table of the lists of a file is the table of these lists
+-- the table that was read from a file is the table of the file's lists
 pub has-lists : (s : SessionData) (bytes : List ℕ) (table : Table) (r : Result Lists TableFault) → table_of s bytes ≡ r → HasLists r table →
     IsTableOf s bytes table
 unfolding lists_of
 has-lists s bytes table (Ok lists) e h = (lists, ap or_place e, λ i round. h round i)
 has-lists s bytes table (Err fault) e h = absurd h
 
--- a bad entry is told by its place
+-- a bad entry is reported by its place
 pub bad-entry : (s : SessionData) (bytes : List ℕ) (fault : TableFault) (at : ℕ) → fault ≡ BadEntry at →
     (fault ≡ NoMemory) ⊎ (lists_of s bytes ≡ Err (place_of fault)) → lists_of s bytes ≡ Err at
 bad-entry s bytes fault at is (inl e) = absurd cc
@@ -40,7 +40,7 @@ bad-entry s bytes fault at is (inr e) = e ∙ ap (λ f. Err (place_of f)) is
 
 -- ---- verdicts
 
--- the verdict under a table is that under the lists of the table
+-- the verdict under a table is the verdict under the table's lists
 pub same-verdict : (s : SessionData) (table : Table) (lists : Lists) (ds : List (List ℕ)) (v : Verdict) → v ≡ verdict s table ds →
     table ≡ digests_of lists → v ≡ verdict_of s lists ds
 unfolding verdict_of

@@ -1,4 +1,4 @@
--- The replay of what a peer left that is done.
+-- The replay of what a completed peer run left.
 use Rattle.std.proofs.Common.{◌≡◌, ◌≤◌, ◌∙◌, ℕ, List, ◌++◌, Bool, true, false, nat_le, Option, None, Some, Ok, IfSome, IsSome, is_some, cond, refl, sym, ap, subst, arith, length}
 use Rattle.std.specs.List.{AllByRecursion}
 use Rattle.std.specs.Option.{option_and_then}
@@ -32,7 +32,7 @@ use Rattle.bar_cli.specs.Replay.Recordings.{recording_of}
 use Rattle.bar_cli.specs.Replay.Plan.{Accepted, HasOwnNames, ReplayFiles, Replayed}
 use Rattle.bar_cli.specs.Replay.Transcript.{transcript}
 
--- ---- what is there can be read, where it isn't too large
+-- ---- a file that exists can be read, if it isn't too large
 
 readable-same : (c d : Content) (p q : List ℕ) → c p ≡ d q → readable c p ≡ readable d q
 readable-same c d p q e = ap (option_and_then (λ bytes. cond (nat_le (length bytes) largest_file) (Some bytes) None)) e
@@ -59,7 +59,7 @@ readable-known c p bytes e h =
 
 -- ---- the files are accepted
 
--- the text of an accepted key, written as spent, is read back, and is short
+-- the text of an accepted key, written as spent, is accepted again, and is short
 abbrev pub AreReadBack : Type 0
 AreReadBack =
     (s : SessionData) (caster fresh spent : Bool) (bytes : List ℕ) (k : Secrets) → key_file_of s caster fresh bytes ≡ Ok k →
@@ -80,7 +80,7 @@ short-key : AreShort → (s : SessionData) (bytes : List ℕ) (k : Secrets) → 
 unfolding fresh_key_of
 short-key short s bytes k is = let most = short s false true true bytes k is in omega arith
 
--- the inputs that a peer of this session took, where a link gave these
+-- the inputs that a peer of this session takes from what a link gave
 abbrev inputs_in : SessionData → List Input → List Input
 inputs_in s inputs = paced (last_tick s) inputs
 
@@ -127,7 +127,7 @@ module _ (peer : PeerNames) (names : ReplayFiles) (before after old : Outside) (
         };
       }
 
--- ---- files are accepted in one way
+-- ---- acceptance is unique: a file has one meaning
 
 same-session : (names : ReplayFiles) (content : Content) (a b : Accepted names content) → a.session ≡ b.session
 same-session names content a b =
@@ -155,9 +155,9 @@ same-inputs names content a b =
     ∙ ap (λ (k : Secrets). recording_of b.session k.party two.bytes) (same-secrets names content a b) ∙ two.is in
     cc
 
--- ---- and so what was replayed is what the peer did
+-- ---- so the replay did what the peer did
 
--- What a replay of this peer over these inputs leaves.
+-- The effects of a replay of this peer over these inputs.
 record HasReplayed (names : ReplayFiles) (s : SessionData) (k : Secrets) (inputs : List Input) (old new : Outside) : Type 0 where
   shown : new.out.bytes ≡ old.out.bytes ++ transcript s (sends_of (member_by s k) inputs)
   played : HasOwnNames names → new.files.content names.played ≡ Some (played_by (member_by s k) inputs)

@@ -1,4 +1,4 @@
--- What a replay showed is a front of the transcript up to one place of its inputs.
+-- What a replay showed is a prefix of the transcript up to one place of its inputs.
 use Rattle.std.proofs.Common.{◌≡◌, ◌≢◌, ◌==◌, ℕ, ◌+◌, ◌≤◌, Bool, true, false, List, [], ◌∷◌, ◌++◌, IsTrue, refl, sym, ap, ◌∙◌, subst, inl, inr, arith, length, take, min, append-nil}
 use Rattle.std.specs.List.{concat}
 use Rattle.std.proofs.Math.Seq.{take-length}
@@ -14,7 +14,7 @@ use Rattle.bar_rules.specs.Peer.Run.{sends_of, step}
 use Rattle.bar_cli.specs.Headline.{KeepsTheRules, ReplayHeadline, ReplaySpoke}
 use Rattle.bar_cli.specs.Replay.Plan.{ReplayFiles, Accepted, PlayedUpTo, Replayed, peer_of, transcript_of}
 use Rattle.bar_cli.specs.Replay.Transcript.{transcript}
-use Rattle.bar_cli.specs.Replay.Turns.{Turn, shown_bytes, turn_of, turns_from}
+use Rattle.bar_cli.specs.Code.Turns.{Turn, shown_bytes, turn_of, turns_from}
 use Rattle.bar_cli.proofs.EndLemmas.{differ}
 use Rattle.bar_session_files.proofs.Accepted.{AreHeld, AreInRange}
 use Rattle.bar_cli.proofs.MemberLemmas.{of-each_moment}
@@ -25,7 +25,7 @@ use Rattle.bar_cli.proofs.UpToLemmas.{front-of}
 
 -- ---- the input of a turn
 
--- This turn, behind these earlier ones, is that of an input behind those that they are of.
+-- This turn, after these earlier ones, is the turn of an input after the inputs of the earlier ones.
 record IsTurnOf (me : Member) (n : ℕ) (log : Log) (inputs : List Input) (earlier : List Turn) (this : Turn) : Type 0 where
   before : List Input
   last : Input
@@ -37,7 +37,7 @@ record IsTurnOf (me : Member) (n : ℕ) (log : Log) (inputs : List Input) (earli
 both-same : (a b : Turn) (xs ys : List Turn) → a ≡ b → xs ≡ ys → a ∷ xs ≡ b ∷ ys
 both-same a b xs ys first others = cc
 
--- so it is behind one input and its turn more
+-- the same with one more input and its turn in front
 one-earlier : (me : Member) (n : ℕ) (log : Log) (x : Input) (xs : List Input) (t : Turn) (ts : List Turn) (this : Turn) →
     turn_of me.session n (step me log x) ≡ t → IsTurnOf me (n + 1) (step me log x).state xs ts this → IsTurnOf me n log (x ∷ xs) (t ∷ ts) this
 one-earlier me n log x xs t ts this same p = record {
@@ -66,7 +66,7 @@ input-of me n log (x ∷ xs) (t ∷ ts) this later e =
     let others : turns_from me (n + 1) (step me log x).state xs ≡ ts ++ this ∷ later = cc in
     one-earlier me n log x xs t ts this same (input-of me (n + 1) (step me log x).state xs ts this later others)
 
--- the turns of more inputs begin with those of fewer
+-- the turns of an extended list of inputs begin with those of the list
 turns-behind : (me : Member) (n : ℕ) (log : Log) (inputs more : List Input) →
     (others : List Turn) × (turns_from me n log (inputs ++ more) ≡ turns_from me n log inputs ++ others)
 turns-behind me n log [] more = (turns_from me n log more, refl)
@@ -74,7 +74,7 @@ turns-behind me n log (x ∷ xs) more =
     let p = turns-behind me (n + 1) (step me log x).state xs more in
     (p.0, ap (λ turns. turn_of me.session n (step me log x) ∷ turns) p.1)
 
--- and so do their lines
+-- the transcript of an extended list of inputs isn't shorter
 shorter : (me : Member) (inputs earlier more : List Input) → inputs ≡ earlier ++ more →
     length (transcript me.session (sends_of me earlier)) ≤ length (transcript me.session (sends_of me inputs))
 shorter me inputs earlier more is =
@@ -87,11 +87,11 @@ shorter me inputs earlier more is =
     let whole = ap length all ∙ length-append (shown_bytes (turns_from me 1 [] earlier)) (shown_bytes p.0) in
     omega arith
 
--- ---- how far a replay spoke
+-- ---- how much a replay showed
 
 module _ (names : ReplayFiles) (old new : Outside) (status : ℕ) (keeps : OfEachPeer KeepsTheRules) (held : AreHeld)
     (ranged : AreInRange) where
-  -- up to one input
+  -- everything before one input
   spoke-up_to : status ≢ 0 → PlayedUpTo names status old new → ReplaySpoke names old new status
   spoke-up_to other up =
       let a = up.accepted in
@@ -122,7 +122,7 @@ module _ (names : ReplayFiles) (old new : Outside) (status : ℕ) (keeps : OfEac
         kept = of-each_moment held ranged KeepsTheRules keeps names old.files.content a;
       }
 
-  -- all of it
+  -- everything
   spoke-all : (a : Accepted names old.files.content) →
       new.out.bytes ≡ old.out.bytes ++ transcript_of names old.files.content a → ReplaySpoke names old new status
   spoke-all a sent =
@@ -139,7 +139,7 @@ module _ (names : ReplayFiles) (old new : Outside) (status : ℕ) (keeps : OfEac
         kept = of-each_moment held ranged KeepsTheRules keeps names old.files.content a;
       }
 
-  -- whatever its status
+  -- at every status
   pub spoke : IsTrue new.files.told → Outcome names old new status → ReplayHeadline names old new status
   spoke told o = by_status (status == 0) refl
     where

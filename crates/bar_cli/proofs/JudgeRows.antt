@@ -1,4 +1,4 @@
--- The rows of the status table, from how `judge` ended.
+-- The rows of the status table, derived from how `judge` ended.
 use Rattle.std.proofs.Common.{◌≡◌, ◌⊎◌, ◌==◌, ℕ, List, false, IsTrue, refl, subst, inl, inr}
 use Rattle.bar_outside.specs.Disk.{Content}
 use Rattle.bar_outside.specs.Plan.{Outside, Plan, is_stop}
@@ -32,7 +32,7 @@ pub verdict-small : (v : Verdict) → (status_of_verdict v ≡ 0) ⊎ (status_of
 verdict-small (Shown party fault) = inl refl
 verdict-small (NotShown why) = inr refl
 
--- at 0 a fault is shown, at 1 none
+-- at 0 a fault is shown, at 1 none is
 
 pub shown-so : (P : Verdict → Type 0) → (v : Verdict) × (0 ≡ status_of_verdict v) × P v → (party : ℕ) × (fault : Fault) × P (Shown party fault)
 shown-so P j = let s = is-shown j.0 j.1 in (s.0, s.1, subst P s.2 j.2)
@@ -58,7 +58,7 @@ module _ (names : JudgeFiles) (content : Content) where
   abbrev pub judge_end : JudgeAccepted names content → Plan
   judge_end a = saying_end (verdict_in names content a)
 
-  -- what was refused, by the status
+  -- the cause of a refusal, by the status
   abbrev pub Causes : ℕ → Type 0
   Causes status =
       cause_at (status == 4) ((fault : SessionFault) × HasBadSession names.session content fault)
@@ -103,7 +103,7 @@ module _ (names : JudgeFiles) (old new : Outside) (status : ℕ) (told : IsTrue 
       says-in-order (Causes names content) line final old new status (λ a. verdict-small (verdict_in names content a)) (λ why. why)
       (λ why. why) (judge_stages names) told (sorts names content) order.gone
 
-  -- a verdict of this status was printed
+  -- the verdict with this status was printed
   pub judged : (status ≡ 0) ⊎ (status ≡ 1) → HasJudged names status old new
   judged which =
       let a = judge-order.ended which in

@@ -1,4 +1,4 @@
--- The rows of the status table, from how `keygen` ended.
+-- The rows of the status table, derived from how `keygen` ended.
 use Rattle.std.proofs.Common.{◌≡◌, ◌⊎◌, ◌==◌, ℕ, List, false, IsTrue, refl, ap, inl, inr}
 use Rattle.bar_outside.specs.Disk.{Content}
 use Rattle.bar_outside.specs.Plan.{Outside, Plan, is_stop}
@@ -32,7 +32,7 @@ module _ (asked : Keygen) (content : Content) where
   abbrev pub key_end : KeygenAccepted asked content → Plan
   key_end a = making_end asked a.secret
 
-  -- what was refused, by the status
+  -- the cause of a refusal, by the status
   abbrev pub Causes : ℕ → Type 0
   Causes status =
       cause_at (status == 4) (HasFewLeaves asked) (cause_at (status == 8) ((len : ℕ) × SecretRefused asked content len) ⊥)
@@ -70,7 +70,7 @@ module _ (asked : Keygen) (old new : Outside) (status : ℕ) (told : IsTrue new.
   refused go zero =
       refused-at (Causes asked content) (key_end asked content) old new status go (λ a e. differ status 0 zero e) came
 
-  -- whatever the status, no file but the key file was changed
+  -- at every status, no file except the key file was changed
   pub other-untouched : (path : List ℕ) → (path ≡ asked.key → ⊥) → new.files.content path ≡ old.files.content path
   other-untouched path differs =
       elim came [
@@ -78,7 +78,7 @@ module _ (asked : Keygen) (old new : Outside) (status : ℕ) (told : IsTrue new.
         | inr a ↦ others-untouched asked.key (text a.0) (lines_of asked a.0.secret) old new status path told differs a.1.part
       ]
 
-  -- nothing was changed or printed; or the key was begun, and where a write failed, its whole text stands
+  -- nothing was changed or printed; or the key was begun, and if a write failed, its whole text was written
   so-far : IsUnchanged status old new
       ⊎ ((a : KeygenAccepted asked content) × IsPartlyMade asked.key (text a) (lines_of asked a.secret) status old new)
   so-far =
@@ -88,7 +88,7 @@ module _ (asked : Keygen) (old new : Outside) (status : ℕ) (told : IsTrue new.
             [ inl same ↦ inl same | inr b ↦ inr (a.0, b) ]
       ]
 
-  -- whatever the status, nothing was changed and printed, or the key was begun
+  -- at every status, nothing was changed or printed, or the key was begun
   pub a_front : (SameFiles old new × NothingPrinted old new) ⊎ KeyBegun asked old new
   a_front =
       elim so-far [
@@ -103,7 +103,7 @@ module _ (asked : Keygen) (old new : Outside) (status : ℕ) (told : IsTrue new.
         })
       ]
 
-  -- what stands where the output failed
+  -- what was written if the output failed
   pub written-key : status ≡ 7 → KeyWritten asked old new
   written-key seven =
       elim so-far [

@@ -1,18 +1,18 @@
--- What is left of making a file: it is created and written, and then lines are printed.
+-- The effects of making a file, in whole or in part: the file is created and written, and then lines are printed.
 use Rattle.std.proofs.Common.{◌≡◌, ◌≢◌, ◌⊎◌, Option, ℕ, List, [], ◌∷◌, ◌++◌, Some, IsTrue, Result, refl, sym, ap, ◌∙◌, subst, inl, inr, take, append-nil}
 use Rattle.std.specs.List.{concat}
 use Rattle.bar_outside.specs.Disk.{Content, CreatedFiles, Failure, created}
 use Rattle.bar_outside.specs.declared.files.CallKind.TheVariants.{Append, Create}
 use Rattle.bar_outside.specs.Plan.{Outside, Action, CanRun, Ran, Reached, Touches, IsShowNext, content_after, shown}
 use Rattle.bar_outside.specs.Plan.Action.{create, append, show}
-use Rattle.bar_outside.specs.Follows.{Follows}
+use Rattle.bar_outside.specs.Code.Follows.{Follows}
 use Rattle.bar_outside.specs.Stages.{IsUnchanged}
 use Rattle.bar_outside.specs.declared.fault.Fault.{Fault}
 use Rattle.bar_outside.proofs.ActionLists.{with_file-same}
 use Rattle.bar_outside.proofs.Contents.{put_at-same, put_at-other, appended-same, appended-other}
 use Rattle.bar_outside.proofs.StageRows.{IsEndWithin}
 use Rattle.bar_outside.proofs.Untouched.{untouched-reached}
-use Rattle.bar_cli.specs.Replay.Turns.{Turn, played_bytes, shown_bytes}
+use Rattle.bar_cli.specs.Code.Turns.{Turn, played_bytes, shown_bytes}
 use Rattle.bar_cli.proofs.UpToLemmas.{IsStopped, IsMadeAt, IsUpTo, stopped-played, unchanged-by}
 
 abbrev pub making : (path text lines : List ℕ) → List Action
@@ -22,14 +22,14 @@ making path text lines = create path ∷ append path text ∷ show lines ∷ []
 pub can-make : (path text lines : List ℕ) (here : CreatedFiles) → CanRun (making path text lines) here
 can-make path text lines here = (with_file-same here path, tt)
 
--- it is made of the same text and lines
+-- equal texts and lines make equal files
 pub made-of : {T : Type 0} (path text same lines others : List ℕ) (old new : Outside) (r : Result T Fault) → text ≡ same → lines ≡ others →
     Follows (making path text lines) old new r → Follows (making path same others) old new r
 made-of path text same lines others old new r e f h =
     subst (λ (xs : List ℕ). Follows (making path xs others) old new r) e
     (subst (λ (xs : List ℕ). Follows (making path text xs) old new r) f h)
 
--- the calls of the files that it makes
+-- the calls of the files that the making contains
 pub making-within : (C : Failure → Type 0) (path text lines : List ℕ) → C (record { kind = Create; path = path }) →
     C (record { kind = Append; path = path }) → IsEndWithin C (record { actions = making path text lines; status = 0; line = [] })
 making-within C path text lines creates appends = record {
@@ -40,7 +40,7 @@ making-within C path text lines creates appends = record {
   ];
 }
 
--- ---- all of it
+-- ---- all of it was done
 
 written : (path text lines : List ℕ) (content : Content) → content_after (making path text lines) content path ≡ Some text
 written path text lines content = appended-same (created content path) path text [] (put_at-same content path [])
@@ -50,7 +50,7 @@ unwritten : (path text lines : List ℕ) (content : Content) (other : List ℕ) 
 unwritten path text lines content other differs =
     appended-other (created content path) path text other differs ∙ put_at-other content path [] other differs
 
--- the file has the text, the lines were printed, and no other file was changed
+-- the file contains the text, the lines were printed, and no other file was changed
 pub record IsMade (path text lines : List ℕ) (old new : Outside) : Type 0 where
   pub written : new.files.content path ≡ Some text
   pub printed : new.out.bytes ≡ old.out.bytes ++ lines
@@ -65,20 +65,20 @@ made path text lines old new told ran = record {
       ∙ unwritten path text lines old.files.content other differs;
 }
 
--- ---- a part of it
+-- ---- a part of it was done
 
 touched-all : (path text lines other : List ℕ) → Touches (making path text lines) other → other ≡ path
 touched-all path text lines other (inl e) = e
 touched-all path text lines other (inr (inl e)) = e
 touched-all path text lines other (inr (inr h)) = absurd h
 
--- however far it came, no other file was changed
+-- however far it got, no other file was changed
 pub others-untouched : (path text lines : List ℕ) (old new : Outside) (status : ℕ) (other : List ℕ) → IsTrue new.files.told →
     (other ≡ path → ⊥) → Reached (making path text lines) status old new → new.files.content other ≡ old.files.content other
 others-untouched path text lines old new status other told differs r =
     untouched-reached (making path text lines) other old new status r told (λ h. differs (touched-all path text lines other h))
 
--- a file has a front of a text, and behind the whole text a front of the lines was printed
+-- the file contains a prefix of the text, and once it is complete a prefix of the lines was printed
 record IsMaking (text lines : List ℕ) (file : Option (List ℕ)) (bytes : List ℕ) (next : List Action) : Type 0 where
   pub count : ℕ
   pub many : ℕ
@@ -87,11 +87,11 @@ record IsMaking (text lines : List ℕ) (file : Option (List ℕ)) (bytes : List
   pub order : (many ≡ 0) ⊎ (take count text ≡ text)
   pub at_output : IsShowNext next → take count text ≡ text
 
--- the making is the creation of the file and one turn: the text is appended, and then the lines are shown
+-- the making consists of the creation of the file and one turn: the text is appended, and then the lines are shown
 abbrev one-turn : (text lines : List ℕ) → Turn
 one-turn text lines = record { contents = text ∷ []; lines = lines ∷ [] }
 
--- a turn among one alone is this one
+-- a turn in a list with one element is this element
 only-turn : (t this : Turn) (earlier later : List Turn) → t ∷ [] ≡ earlier ++ this ∷ later → (earlier ≡ []) × (this ≡ t)
 only-turn t this [] later e = let same : this ≡ t = cc in (refl, same)
 only-turn t this (x ∷ xs) later e = let none : ◌≡◌ {A = List Turn} [] (xs ++ this ∷ later) = cc in absurd (no-more xs none)
@@ -121,8 +121,8 @@ module _ (text lines : List ℕ) (file : Option (List ℕ)) (bytes : List ℕ) (
         at_output = λ h. subst (λ xs. take u.played_count xs ≡ xs) contents (u.at_output h);
       }
 
--- the file has a front of the text, and behind all of it a front of the lines was printed; where a write to the output failed, all of the text
--- stands
+-- the file contains a prefix of the text, and once it is complete a prefix of the lines was printed; if a write to the output failed, the
+-- whole text was written
 pub record IsPartlyMade (path text lines : List ℕ) (status : ℕ) (old new : Outside) : Type 0 where
   pub written_count : ℕ
   pub printed_count : ℕ
@@ -153,6 +153,6 @@ module _ (path text lines : List ℕ) (old new : Outside) (status : ℕ) (told :
   stopped (inr (inl m)) = inr (begun (making-none _ _ _ _ _ m))
   stopped (inr (inr u)) = inr (begun (making-some _ _ _ _ _ u))
 
-  -- nothing was changed and printed, or the file was begun
+  -- nothing was changed or printed, or the file was begun
   pub made-so-far : IsUnchanged status old new ⊎ IsPartlyMade path text lines status old new
   made-so-far = stopped (stopped-played path (one-turn text lines ∷ []) old.files.content d.done d.begun)

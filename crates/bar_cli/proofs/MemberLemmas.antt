@@ -1,4 +1,4 @@
--- The peer of accepted files is a member of its session, and so what holds of each peer holds of it.
+-- The peer of accepted files is a member of its session, so what holds for every peer holds for it.
 use Rattle.std.proofs.Common.{◌≡◌, ◌∙◌, ◌≤◌, ◌<◌, ℕ, List, [], Bool, true, false, Ok, Option, Some, None, is_some, refl, sym, ap, arith}
 use Rattle.std.proofs.lemmas.Bool.{false≢true}
 use Rattle.bar_outside.specs.Disk.{Content}
@@ -49,13 +49,13 @@ is-live_member : AreHeld → AreInRange → (names : PeerNames) (content : Conte
 unfolding fresh_key_of
 is-live_member held ranged names content s k a = member-of held ranged true a.in_session.bytes a.bytes s k a.in_session.is a.is
 
--- what holds of each peer and its inputs holds of the peer of a replay at each moment of its recording
+-- if a property holds for every peer and its inputs, it holds for the peer of a replay at each moment of its recording
 pub of-each_moment : AreHeld → AreInRange → (P : Member → List Input → Type 0) → OfEachPeer P →
     (names : ReplayFiles) (content : Content) (a : Accepted names content) → AtEachMoment P (peer_of names content a) a.inputs
 of-each_moment held ranged P always names content a = λ earlier later is.
     always (peer_of names content a) (is-member held ranged names content a) earlier
 
--- where a key opens badly evidence is kept, and what is kept is shown
+-- if a key opens badly, evidence is kept, and the evidence shows a fault
 pub proves-bad_keys : BadKeysLeaveEvidence → KeptEvidenceIsShown → (me : Member) (inputs : List Input) (x : Exchange) (key : Datagram) →
     OpensBadly me (log_after me [] inputs) x key → HasProof me (log_after me [] inputs) (partner_in me x)
 proves-bad_keys caught shown me inputs x key bad = from-kept (kept log (partner_in me x)) refl (caught me inputs x key bad)
@@ -69,7 +69,7 @@ proves-bad_keys caught shown me inputs x key bad = from-kept (kept log (partner_
     from-kept (Some evidence) is some =
         record { evidence = evidence; held = is; shown = λ wider extends. shown me inputs (partner_in me x) evidence wider is extends }
 
--- at each moment over the inputs that the peer of a fresh key takes
+-- the property holds at each moment over the inputs that the peer of a fresh key takes
 pub at-each_moment : AreHeld → AreInRange → (P : Member → List Input → Type 0) → OfEachPeer P → (names : PeerNames) (content : Content)
     (s : SessionData) (k : Secrets) → PeerAccepted names content s k → (inputs : List Input) → AtEachMoment P (member_by s k) inputs
 at-each_moment held ranged P always names content s k accepted inputs = λ earlier later front.

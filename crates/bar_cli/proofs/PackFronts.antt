@@ -1,4 +1,4 @@
--- What a part of `pack` leaves.
+-- The effects of `pack` when it is done in part.
 use Rattle.std.proofs.Common.{◌⊎◌, ℕ, List, IsTrue, refl, subst, inl, inr}
 use Rattle.bar_outside.specs.Plan.{Outside}
 use Rattle.bar_outside.specs.Stages.{IsUnchanged}
@@ -9,7 +9,7 @@ use Rattle.bar_cli.proofs.MadeFiles.{IsPartlyMade, made-so-far}
 use Rattle.bar_session_files.proofs.Accepted.{AreInRange}
 use Rattle.bar_cli.proofs.PackRows.{IsMaking, HasPrintedReason, Outcome, not-packed, other-untouched, packed}
 
--- of the reason a front was printed
+-- a prefix of the reason was printed
 told-front : (names : PackFiles) (old new : Outside) (status : ℕ) → IsTrue new.files.told → HasPrintedReason names old new status →
     NotPackedFront names old new
 told-front names old new status told t = record {
@@ -20,7 +20,7 @@ told-front names old new status told t = record {
   files = t.told.files;
 }
 
--- nothing was changed or printed, or the proof file was begun, and where a write to the output failed, all of it stands
+-- nothing was changed or printed, or the proof file was begun; if a write to the output failed, the whole proof file was written
 abbrev ProofSoFar : PackFiles → ℕ → Outside → Outside → Type 0
 ProofSoFar names status old new =
     IsUnchanged status old new
@@ -34,7 +34,7 @@ so-far names old new status told p =
     elim (made-so-far names.proof file (packed_line file) old new status told p.went.part) [ inl same ↦ inl same | inr b ↦ inr (p.one, b) ]
 
 module _ (names : PackFiles) (old new : Outside) (status : ℕ) (told : IsTrue new.files.told) where
-  -- whatever the status, nothing was changed and printed, or a front of the reason was printed, or the proof file was begun
+  -- at every status, nothing was changed or printed, or a prefix of the reason was printed, or the proof file was begun
   pub a_front : Outcome names old new status → PackFront names old new
   a_front (inl r) = inl (r.0.files, r.0.out)
   a_front (inr (inl t)) = inr (inl (told-front names old new status told t))
@@ -51,7 +51,7 @@ module _ (names : PackFiles) (old new : Outside) (status : ℕ) (told : IsTrue n
         }))
       ]
 
--- what stands where the output failed
+-- what was written if the output failed
 pub at-output : (names : PackFiles) (old new : Outside) → IsTrue new.files.told → Outcome names old new 7 →
     ProofWritten names old new ⊎ NotPackedFront names old new
 at-output names old new told (inl r) = absurd (r.0.no_output refl)
@@ -63,7 +63,7 @@ at-output names old new told (inr (inr p)) =
           inl (record { one = b.0; printed_count = b.1.printed_count; written = b.1.at_output refl; printed = b.1.printed })
     ]
 
--- all that stands
+-- all properties of `pack`
 pub stands : ShownIsPacked → TablesAreSpelled → AreInRange → (names : PackFiles) (old new : Outside) (status : ℕ) → IsTrue new.files.told →
     Outcome names old new status → PackStands names old new status
 stands law spells ranged names old new status told o = record {

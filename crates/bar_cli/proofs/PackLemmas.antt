@@ -1,4 +1,4 @@
--- What is packed, or why nothing is, as the plan of `pack` tells it.
+-- What is packed, or why nothing is, in terms of the plan of `pack`.
 use Rattle.std.proofs.Common.{◌≡◌, ℕ, List, [], Some, Ok, Err, sym, ap, subst, refl}
 use Rattle.std.specs.Option.{ok_or}
 use Rattle.bar_outside.specs.Plan.{Outside, doing}
@@ -11,7 +11,7 @@ use Rattle.bar_terms.specs.Table.{Lists, digests_of}
 use Rattle.bar_session.specs.SessionData.{SessionData}
 use Rattle.bar_rules.specs.Judge.Verdict.{Verdict, Shown, NotShown, verdict}
 use Rattle.bar_judge.specs.TableFile.{table_of}
-use Rattle.bar_judge.specs.Verdicts.{plain_why}
+use Rattle.bar_judge.specs.Code.Verdicts.{plain_why}
 use Rattle.bar_judge.specs.declared.table_fault.TableFault.TheVariants.{BadEntry}
 use Rattle.bar_judge.specs.declared.why.Why.{Why}
 use Rattle.bar_proof.specs.declared.pack_fault.PackFault.TheVariants as fault
@@ -22,7 +22,7 @@ use Rattle.bar_cli.specs.Judge.Plan.{saying_plan}
 use Rattle.bar_cli.specs.Pack.{PackFiles, evidence_stages, inputs_stages, packing_actions, packing_end}
 use Rattle.bar_cli.specs.Refusals.{table_refused, evidence_refused}
 
--- lists that are read are those of the plan
+-- the lists that are read are those of the plan
 lists-read : (s : SessionData) (table : List ℕ) (lists : Lists) → table_of s table ≡ Ok lists → lists_of s table ≡ Ok lists
 unfolding lists_of
 lists-read s table lists e = ap or_place e
@@ -37,7 +37,7 @@ unfolding verdict_of
 verdict-told s lists ds v e = e
 
 module _ (names : PackFiles) (s : SessionData) (table evidence : List ℕ) (old new : Outside) (status : ℕ) (line : List ℕ) where
-  -- both are accepted, and the rest goes by the verdict
+  -- both are accepted, and the rest depends on the verdict
   by-verdict : (lists : Lists) (ds : List (List ℕ)) (v : Verdict) → table_of s table ≡ Ok lists → evidence_of evidence ≡ Some ds →
       verdict s (digests_of lists) ds ≡ v → EndsWith (plan_by (does (packing_end names (packed_bytes s lists table ds) v))) old new status line →
       EndsWith (plan_by (inputs_stages names s table evidence)) old new status line

@@ -1,4 +1,4 @@
--- The rows of the status table, from how `pack` ended.
+-- The rows of the status table, derived from how `pack` ended.
 use Rattle.std.proofs.Common.{◌≡◌, ◌⊎◌, ◌==◌, ℕ, List, [], Option, Some, None, Result, Ok, Err, false, true, IsTrue, refl, sym, ap, ◌∙◌, inl, inr}
 use Rattle.std.specs.Option.{ok_or}
 use Rattle.bar_outside.specs.Disk.{Content}
@@ -61,7 +61,7 @@ module _ (names : PackFiles) (content : Content) where
   abbrev pub pack_end : PackAccepted names content → Plan
   pack_end a = packing_end names (file_in names content a) (verdict_in names content a)
 
-  -- what was refused, by the status
+  -- the cause of a refusal, by the status
   abbrev pub Causes : ℕ → Type 0
   Causes status =
       cause_at (status == 4) ((fault : SessionFault) × HasBadSession names.session content fault)
@@ -96,21 +96,21 @@ module _ (names : PackFiles) (content : Content) where
         evidence_read = c.2.1;
       }) end c.2.2)
 
--- ---- how far it came
+-- ---- how far it got
 
--- all were accepted, nothing is shown, and its reason was printed
+-- everything was accepted, no fault is shown, and the reason was printed
 pub record HasPrintedReason (names : PackFiles) (old new : Outside) (status : ℕ) : Type 0 where
   pub accepted : PackAccepted names old.files.content
   pub why : Why
   pub is : verdict_in names old.files.content accepted ≡ NotShown why
   pub told : HasShown (verdict_line (NotShown why)) 1 old new status
 
--- a fault is shown, and the making of the proof file went so
+-- a fault is shown, and the making of the proof file got this far
 pub record IsMaking (names : PackFiles) (old new : Outside) (status : ℕ) : Type 0 where
   pub one : HasShownOne names old.files.content
   pub went : Went (doing (packing_actions names.proof (file_of names old.files.content one)) 0 [] old.files.content) old new status
 
--- nothing was changed or printed, for a stop or a refusal; or the reason was printed, or the proof file made
+-- nothing was changed or printed, because of a stop or a refusal; or the reason was printed, or the proof file was made
 abbrev pub Outcome : PackFiles → Outside → Outside → ℕ → Type 0
 Outcome names old new status =
     (IsUnchanged status old new × ((is_stop status ≡ true) ⊎ Causes names old.files.content status))
@@ -134,7 +134,7 @@ module _ (names : PackFiles) (old new : Outside) (status : ℕ) (told : IsTrue n
 
 -- ---- what is packed
 
--- lists that are read are those of the table file
+-- the lists that are read are those of the table file
 lists-are : (s : SessionData) (table : List ℕ) (lists : Lists) → lists_of s table ≡ Ok lists → table_of s table ≡ Ok lists
 unfolding lists_of
 lists-are s table lists e = by_read (table_of s table) e
@@ -143,12 +143,12 @@ lists-are s table lists e = by_read (table_of s table) e
     by_read (Ok read) e = let same : read ≡ lists = cc in ap Ok same
     by_read (Err fault) e = cc
 
--- and so are datagrams
+-- the datagrams that are read are those of the evidence file
 evidence-is : (o : Option (List (List ℕ))) (ds : List (List ℕ)) → ok_or o (tt {0}) ≡ Ok ds → o ≡ Some ds
 evidence-is (Some read) ds e = let same : read ≡ ds = cc in ap Some same
 evidence-is None ds e = cc
 
--- what the rules say of datagrams under lists
+-- the verdict of the rules on datagrams under lists
 verdict-is : (s : SessionData) (lists : Lists) (ds : List (List ℕ)) (v : Verdict) → verdict_of s lists ds ≡ v →
     verdict s (digests_of lists) ds ≡ v
 unfolding verdict_of
@@ -163,7 +163,7 @@ one-evidence o a b e f = let same : ◌≡◌ {A = Option (List (List ℕ))} (So
 one-verdict : (p q : ℕ) (f g : Fault) → Shown p f ≡ Shown q g → (p ≡ q) × (f ≡ g)
 one-verdict p q f g e = let same : p ≡ q = cc in let alike : f ≡ g = cc in (same, alike)
 
--- a file that is packed shows the fault of the one verdict
+-- a packed file shows the fault of the verdict
 same-shown : (s : SessionData) (table evidence file : List ℕ) (lists : Lists) (ds : List (List ℕ)) (party : ℕ) (fault : Fault) →
     table_of s table ≡ Ok lists → evidence_of evidence ≡ Some ds → verdict s (digests_of lists) ds ≡ Shown party fault →
     (p : IsPacked s table evidence file) → (p.party ≡ party) × (p.fault ≡ fault)
@@ -219,7 +219,7 @@ module _ (names : PackFiles) (old new : Outside) where
       absurd (elim t.told.ended [ inl same ↦ differ status 1 others same | inr stop ↦ go-on status go stop ])
   refused_so status other others go (inr (inr p)) = absurd (differ status 0 other (p.went.carried go).is)
 
--- whatever the status, no file but the proof file was changed
+-- at every status, no file except the proof file was changed
 pub other-untouched : (names : PackFiles) (old new : Outside) (status : ℕ) (path : List ℕ) → IsTrue new.files.told →
     (path ≡ names.proof → ⊥) → Outcome names old new status → new.files.content path ≡ old.files.content path
 other-untouched names old new status path told differs (inl r) = ap (λ (holds : Content). holds path) r.0.files

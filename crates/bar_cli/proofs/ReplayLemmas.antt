@@ -1,4 +1,4 @@
--- What the turns of a replay leave.
+-- The effects of a replay's turns on the files and the output.
 use Rattle.std.proofs.Common.{◌≡◌, ◌≢◌, ℕ, List, [], ◌∷◌, ◌++◌, Some, refl, sym, ap, ◌∙◌, map, append-nil, append_assoc, IsTrue, subst}
 use Rattle.std.specs.List.{AllByRecursion, concat}
 use Rattle.bar_outside.specs.Disk.{Content, CreatedFiles, created, with_file}
@@ -8,7 +8,7 @@ use Rattle.bar_outside.proofs.Contents.{put_at-same, put_at-other}
 use Rattle.bar_outside.proofs.ActionLists.{CanRun-append, content_after-append, shown-append, with_file-same}
 use Rattle.bar_outside.proofs.Appends.{appends-other, appends-same, can-appends, shown-appends}
 use Rattle.bar_outside.proofs.Unlinked.{IsUnlinked, unlinked-append, unlinked-appends, unlinked-shows}
-use Rattle.bar_cli.specs.Replay.Turns.{Turn, turn_actions, turns_actions, played_bytes, shown_bytes}
+use Rattle.bar_cli.specs.Code.Turns.{Turn, turn_actions, turns_actions, played_bytes, shown_bytes}
 use Rattle.bar_findings.specs.Findings.{Finding, findings_actions}
 use Rattle.bar_findings.proofs.Holding.{AreWritten, all-written, can-write, shown-findings, unlinked-findings, unwritten}
 use Rattle.bar_findings.proofs.Names.{AreDistinct}
@@ -26,7 +26,7 @@ can-turns played (t ∷ ts) here made =
     (can-appends played t.contents (map show t.lines ++ turns_actions played ts) here made
     (can-shows t.lines (turns_actions played ts) here (can-turns played ts here made)))
 
--- a replay appends to files that it created
+-- a replay appends only to files that it created
 pub can-replay : (names : ReplayFiles) (turns : List Turn) (findings : List Finding) (here : CreatedFiles) →
     CanRun (replay_actions names turns findings) here
 can-replay names turns findings here =
@@ -34,7 +34,7 @@ can-replay names turns findings here =
     (can-turns names.played turns (with_file here names.played) (with_file-same here names.played))
     (can-write findings (created_after (playing_actions names.played turns) here))
 
--- and does nothing over the link
+-- a replay does nothing over the link
 
 unlinked-turns : (played : List ℕ) (turns : List Turn) → IsUnlinked (turns_actions played turns)
 unlinked-turns played [] = tt
@@ -51,7 +51,7 @@ unlinked-replay names turns findings =
     unlinked-append (playing_actions names.played turns) (findings_actions findings) (unlinked-playing names.played turns)
     (unlinked-findings findings)
 
--- what is shown changes no file
+-- showing lines changes no file
 shows-leave : (lines : List (List ℕ)) (content : Content) → content_after (map show lines) content ≡ content
 shows-leave [] content = refl
 shows-leave (x ∷ xs) content = shows-leave xs content
@@ -85,7 +85,7 @@ turns-other played (t ∷ ts) content q differs =
     ∙ ap (λ (c : Content). c q) (turn-leaves played t content)
     ∙ appends-other played t.contents content q differs
 
--- what the played file has after all turns, and what the others have
+-- the content of the played file after all turns, and of the other files
 pub all-played : (played : List ℕ) (turns : List Turn) (content : Content) →
     content_after (playing_actions played turns) content played ≡ Some (played_bytes turns)
 all-played played turns content = turns-played played [] turns (created content played) (put_at-same content played [])
@@ -95,7 +95,7 @@ pub others-unplayed : (played : List ℕ) (turns : List Turn) (content : Content
 others-unplayed played turns content q differs =
     turns-other played turns (created content played) q differs ∙ put_at-other content played [] q differs
 
--- and so after a replay, which writes what was found in files of other names
+-- the same after a replay, which writes what was found to files with other names
 pub final-played : (names : ReplayFiles) (turns : List Turn) (findings : List Finding) (content : Content) →
     AllByRecursion (λ f. f.name ≢ names.played) findings →
     content_after (replay_actions names turns findings) content names.played ≡ Some (played_bytes turns)
@@ -111,7 +111,7 @@ final-other names turns findings content q differs differ =
     ∙ unwritten findings (content_after (playing_actions names.played turns) content) q differ
     ∙ others-unplayed names.played turns content q differs
 
--- what was found stands whole
+-- what was found was written in whole
 pub final-found : (names : ReplayFiles) (turns : List Turn) (findings : List Finding) (content : Content) → AreDistinct findings →
     AreWritten findings (content_after (replay_actions names turns findings) content)
 final-found names turns findings content distinct =
@@ -135,7 +135,7 @@ shown-turns played (t ∷ ts) =
     ∙ ap (λ bytes. bytes ++ shown (turns_actions played ts)) (shown-turn played t)
     ∙ ap (λ bytes. concat t.lines ++ bytes) (shown-turns played ts)
 
--- what is shown of all turns, and of a replay
+-- what all turns show, and what a replay shows
 pub shown-playing : (played : List ℕ) (turns : List Turn) → shown (playing_actions played turns) ≡ shown_bytes turns
 shown-playing played turns = shown-turns played turns
 

@@ -1,4 +1,4 @@
--- The rows of the status table, from how a replay ended.
+-- The rows of the status table, derived from how a replay ended.
 use Rattle.std.proofs.Common.{◌≡◌, ◌⊎◌, ◌==◌, ℕ, List, [], ◌∷◌, ◌++◌, false, IsTrue, Some, refl, sym, ap, ◌∙◌, subst, inl, inr, map, take, length, ◌≢◌, ◌<◌, ◌^◌, append-nil, append_assoc, arith}
 use Rattle.std.proofs.Math.Seq.{take-length}
 use Rattle.std.specs.List.{AllByRecursion}
@@ -28,7 +28,7 @@ use Rattle.bar_cli.specs.Replay.Found.{evidence_of, found_by, manifest_of}
 use Rattle.bar_cli.specs.Refusals.{session_refused, key_refused, recording_refused}
 use Rattle.bar_session_files.specs.Accepting.{HasBadSession, secrets_of_key, session_of}
 use Rattle.bar_cli.specs.Replay.Recordings.{recording_of}
-use Rattle.bar_cli.specs.Replay.Turns.{Turn, shown_bytes, turns_actions}
+use Rattle.bar_cli.specs.Code.Turns.{Turn, shown_bytes, turns_actions}
 use Rattle.bar_cli.specs.Replay.Plan.{ReplayFiles, KeyRefused, InputRefused, Accepted, Replayed, PlayedFront, PlayedUpTo, FoundUpTo, HasOwnNames, OthersAreSame, ChangesNothing, IsMade, IsReplayCall, found_in, key_stages, peer_of, playing_actions, recording_stages, replay_actions, replay_plan, replay_stages, run_end, transcript_of, turns_in, turns_of}
 use Rattle.bar_cli.proofs.EndLemmas.{differ, go-on}
 use Rattle.bar_session_files.proofs.Accepted.{AreHeld, AreInRange, held-here, in-range_here}
@@ -44,7 +44,7 @@ found-names : (names : ReplayFiles) (me : Member) (inputs : List Input) →
 found-names names me inputs =
     finding-names names.found (manifest_of me inputs) me.session.shape.rounds (evidence_of me inputs) me.session.shape.peers
 
--- none of it is in the played file
+-- no file of what was found is the played file
 own-names : (names : ReplayFiles) (me : Member) (inputs : List Input) → HasOwnNames names →
     AllByRecursion (λ f. f.name ≢ names.played) (found_by names.found me inputs)
 own-names names me inputs own =
@@ -55,7 +55,7 @@ own-names names me inputs own =
     differs name (inl e) = λ h. own.table (sym h ∙ e)
     differs name (inr p) = λ h. own.evidence p.0 (sym h ∙ p.1)
 
--- no two of its files have one name
+-- no two files of what was found have the same name
 distinct-in : AreInRange → (names : ReplayFiles) (content : Content) (a : Accepted names content) → AreDistinct (found_in names content a)
 distinct-in ranged names content a =
     let most = (in-range_here ranged a.by_key.in_session.bytes a.session a.by_key.in_session.is).shape.peers_high in
@@ -63,7 +63,7 @@ distinct-in ranged names content a =
     findings-distinct names.found (manifest_of (peer_of names content a) a.inputs) a.session.shape.rounds
     (evidence_of (peer_of names content a) a.inputs) a.session.shape.peers few
 
--- some of it was written
+-- a part of it was written
 written-some : (names : ReplayFiles) (me : Member) (inputs : List Input) (content : Content) (done : List Action) →
     AreDistinct (found_by names.found me inputs) → Begun (findings_actions (found_by names.found me inputs)) done →
     IsWrittenUpTo (found_by names.found me inputs) content (content_after done content) × (shown done ≡ [])
@@ -124,7 +124,7 @@ module _ (names : ReplayFiles) (content : Content) where
   abbrev pub replay_end : Accepted names content → Plan
   replay_end a = run_end names a.session a.secrets a.inputs
 
-  -- what was refused, by the status
+  -- the cause of a refusal, by the status
   abbrev pub Causes : ℕ → Type 0
   Causes status =
       cause_at (status == 4) ((fault : SessionFault) × HasBadSession names.session content fault)
@@ -147,7 +147,7 @@ module _ (names : ReplayFiles) (content : Content) where
         in_recording = in_recording;
       }))))
 
--- nothing was changed or printed, for a stop or a refusal; or all were accepted, and the turns went so
+-- nothing was changed or printed, because of a stop or a refusal; or everything was accepted, and the turns got this far
 abbrev pub Outcome : ReplayFiles → Outside → Outside → ℕ → Type 0
 Outcome names old new status = Came (Causes names old.files.content) (replay_end names old.files.content) old new status
 
@@ -160,7 +160,7 @@ outcome names old new status told order =
 -- ---- the rows
 
 module _ (names : ReplayFiles) (old new : Outside) where
-  -- at 0 the turns went to their end
+  -- at 0 all turns were done
   pub replayed : AreHeld → AreInRange → IsTrue new.files.told → Outcome names old new 0 → Replayed names old new
   replayed held ranged told (inl r) = absurd (elim r.1 [ inl stop ↦ go-on 0 refl stop | inr none ↦ none ])
   replayed held ranged told (inr p) =
@@ -201,7 +201,7 @@ pub refused-untouched : (names : ReplayFiles) (old new : Outside) (status : ℕ)
     Outcome names old new status → ChangesNothing old new
 refused-untouched names old new status other go o = as-untouched status old new (refused names old new status other go o).0
 
--- the turns touch the played file alone
+-- the turns touch only the played file
 
 touched-shows : (lines : List (List ℕ)) (rest : List Action) (path : List ℕ) → Touches (map show lines ++ rest) path → Touches rest path
 touched-shows [] rest path h = h
@@ -220,7 +220,7 @@ touched-playing : (played : List ℕ) (turns : List Turn) (path : List ℕ) → 
 touched-playing played turns path (inl e) = e
 touched-playing played turns path (inr h) = touched-turns played turns path h
 
--- and what is written then, its own
+-- afterwards only the files of what was found are touched
 touched-run : (names : ReplayFiles) (turns : List Turn) (me : Member) (inputs : List Input) (path : List ℕ) →
     Touches (replay_actions names turns (found_by names.found me inputs)) path → (path ≡ names.played) ⊎ IsFindingName names.found path
 touched-run names turns me inputs path h =
@@ -230,7 +230,7 @@ touched-run names turns me inputs path h =
           inr (touched-findings (IsFindingName names.found) (found_by names.found me inputs) path (found-names names me inputs) later)
     ]
 
--- whatever the status, no other file was changed
+-- at every status, no other file was changed
 pub other-untouched : (names : ReplayFiles) (old new : Outside) (status : ℕ) (path : List ℕ) → IsTrue new.files.told →
     (path ≡ names.played → ⊥) →
     (IsFindingName names.found path → ⊥) → Outcome names old new status → new.files.content path ≡ old.files.content path
@@ -242,16 +242,17 @@ other-untouched names old new status path told differs differ (inr p) =
     untouched-reached (replay_actions names turns (found_by names.found me a.inputs)) path old new status p.1.part told
     (λ h. elim (touched-run names turns me a.inputs path h) [ inl e ↦ differs e | inr named ↦ differ named ])
 
--- ---- how far it came, whatever stopped it
+-- ---- how far it got, whatever stopped it
 
--- nothing was changed or printed, or the played file was made, or the turns were done so far, or what was found was written so far
+-- nothing was changed or printed, or the played file was created, or the turns were done up to some point, or what was found was written up
+-- to some point
 abbrev StoppedAt : ReplayFiles → ℕ → Outside → Outside → Type 0
 StoppedAt names status old new =
     IsUnchanged status old new
     ⊎ ((Accepted names old.files.content × IsMade names old new × (status ≡ 7 → ⊥))
     ⊎ (PlayedUpTo names status old new ⊎ FoundUpTo names status old new))
 
--- as far as the turns came, only the played file is changed
+-- during the turns only the played file is changed
 others-same : (names : ReplayFiles) (turns : List Turn) (status : ℕ) (old new : Outside) → IsTrue new.files.told →
     Reached (playing_actions names.played turns) status old new → OthersAreSame names old new
 others-same names turns status old new told d = λ path differs.
@@ -293,7 +294,7 @@ stopped-playing names old new status told a d (inr (inr up)) =
       others = others-same names (turns_in names old.files.content a) status old new told d;
     })))
 
--- all turns were done, and some of what is written then
+-- all turns were done, and a part of what is written afterwards
 found-so_far : AreInRange → (names : ReplayFiles) (old new : Outside) (status : ℕ) → IsTrue new.files.told →
     (a : Accepted names old.files.content)
     (d : Reached (replay_actions names (turns_in names old.files.content a) (found_in names old.files.content a)) status old new)
@@ -338,7 +339,7 @@ stopped-at ranged names old new status told (inr p) =
       | inr m ↦ inr (inr (inr (found-so_far ranged names old new status told p.0 p.1.part m.0 m.1 m.2 m.3)))
     ]
 
--- how far a replay came
+-- how far a replay got
 pub stopped-replay : AreInRange → (names : ReplayFiles) (old new : Outside) (status : ℕ) → IsTrue new.files.told →
     Outcome names old new status →
     ChangesNothing old new ⊎ (IsMade names old new ⊎ (PlayedUpTo names status old new ⊎ FoundUpTo names status old new))
@@ -348,7 +349,7 @@ stopped-replay ranged names old new status told o =
       | inr two ↦ elim two [ inl made ↦ inr (inl made.1) | inr up ↦ inr (inr up) ]
     ]
 
--- a write fails behind all that an input plays
+-- a write fails only after everything that its input plays
 pub failed-output : AreInRange → (names : ReplayFiles) (old new : Outside) → IsTrue new.files.told → Outcome names old new 7 →
     PlayedUpTo names 7 old new
 failed-output ranged names old new told o =
@@ -375,7 +376,7 @@ front-up_to names old new status up =
           ∙ ap (λ bytes. old.out.bytes ++ bytes) (printed.1 ∙ ap (take printed.0) (shown-turns_from me 1 [] up.accepted.inputs));
     }
 
--- all is a front
+-- the whole list is a prefix of itself
 front-found : (names : ReplayFiles) (old new : Outside) (status : ℕ) → FoundUpTo names status old new → PlayedFront names old new
 front-found names old new status up =
     let all : List ℕ = played_by (peer_of names old.files.content up.accepted) up.accepted.inputs in
@@ -388,7 +389,7 @@ front-found names old new status up =
       shown = up.sent ∙ ap (λ bytes. old.out.bytes ++ bytes) (sym (take-length lines));
     }
 
--- whatever the status, all is as it was, or a front was played and a front shown
+-- at every status, nothing is changed, or a prefix was played and a prefix shown
 pub a_front : AreInRange → (names : ReplayFiles) (old new : Outside) (status : ℕ) → IsTrue new.files.told → Outcome names old new status →
     ChangesNothing old new ⊎ PlayedFront names old new
 a_front ranged names old new status told o =

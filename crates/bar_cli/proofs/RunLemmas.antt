@@ -1,4 +1,4 @@
--- How a command ends over a link.
+-- How a command over a link ends.
 use Rattle.std.proofs.Common.{◌≡◌, ◌⊎◌, ◌||◌, ℕ, Bool, true, false, true≢false, is_err, List, [], ◌++◌, Option, None, Some, Result, Ok, Err, IsTrue, refl, sym, ap, ◌∙◌, subst, take, inl, inr, arith}
 use Rattle.bar_outside.specs.Disk.{Content, Disk, readable}
 use Rattle.bar_outside.specs.Ends.{EndsWith, IsFixed, Prints, Says, is_plain}
@@ -24,7 +24,7 @@ use Rattle.bar_cli.specs.Keygen.Plan.{secret_stages, leaves_for}
 
 -- ---- which plan it was
 
--- a command without a link took nothing from it
+-- a command without a link receives nothing from it
 pub over-no_link : (plan : Content → Plan) (files files_new : Disk) (out out_new : Stream) (wire : Wire) (status : ℕ) (line : List ℕ) →
     ((content : Content) → IsUnlinked (plan content).actions) → (status ≡ 6 → ⊥) → EndsWith plan (outside files out wire) (outside files_new out_new wire) status line →
     RunEndsWith (λ given. plan) (outside files out wire) (outside files_new out_new wire) status line
@@ -37,7 +37,7 @@ over-no_link plan files files_new out out_new wire status line unlinked other en
   answers = λ reliable. other;
 }
 
--- memory was wanting before anything was done
+-- memory ran out before anything was done
 pub no-memory : (plan : List Arrival → Content → Plan) (old : Outside) → RunEndsWith plan old old 70 no_memory
 no-memory plan old = record {
   given = [];
@@ -48,7 +48,7 @@ no-memory plan old = record {
   answers = λ reliable e. absurd (omega arith);
 }
 
--- want of memory may come in place of any status
+-- running out of memory may replace any status
 pub run-ends : (plan : List Arrival → Content → Plan) (old new : Outside) (status result : ℕ) (line : List ℕ) →
     (result ≡ status) ⊎ (result ≡ 70) → RunEndsWith plan old new status line → RunEnds plan old new result
 run-ends plan old new status result line code r = record {
@@ -60,13 +60,13 @@ run-ends plan old new status result line code r = record {
   answers = λ reliable e. elim code [ inl same ↦ r.answers reliable (sym same ∙ e) | inr seventy ↦ absurd (omega arith) ];
 }
 
--- the plan of these words is that of this line
+-- the plan of these arguments is that of this command line
 pub ends-as : (words : Option Line) (line : Line) (old new : Outside) (status result : ℕ) (text : List ℕ) → words ≡ Some line →
     (result ≡ status) ⊎ (result ≡ 70) → RunEndsWith (plan_of words) old new status text → RunEnds (plan_of (Some line)) old new result
 ends-as words line old new status result text is code r =
     subst (λ asked. RunEnds (plan_of asked) old new result) is (run-ends (plan_of words) old new status result text code r)
 
--- ---- the line of its end is the same whatever the link gives
+-- ---- the line of its end doesn't depend on what the link gives
 
 stage-line : {A E : Type 0} (path : List ℕ) (meaning : List ℕ → Result A E) (status : ℕ) (line : E → List ℕ) (some others : A → Stages)
     (content : Content) → ((meant : A) → (plan_by (some meant) content).line ≡ (plan_by (others meant) content).line) →
@@ -128,12 +128,12 @@ says-same p q status old new e h = record {
       let f = h.no_memory is in (f.0, f.1, f.2 ∙ ap (λ line. old.bytes ++ take f.0 line) (line-same p q f.1 e));
 }
 
--- the line that words have that are no line
+-- the line for arguments that aren't a valid command line
 usage-line : (words : Option Line) (given : List Arrival) (content : Content) (text : List ℕ) → words ≡ None → text ≡ usage →
     text ≡ (plan_of words given content).line
 usage-line words given content text none is = is ∙ sym (ap (λ asked. (plan_of asked given content).line) none)
 
--- ---- plans that are the same whatever the files hold
+-- ---- plans that don't depend on what the files hold
 
 refused-fixed : {A E : Type 0} (r : Result A E) (others : A → Stages) (line : E → List ℕ) (content : Content) → is_err r ≡ true →
     IsFixed (plan_by (accepts r others (λ fault. refuses 4 (line fault)))) content
@@ -160,7 +160,7 @@ pub few-leaves : {A E : Type 0} (r : Result A E) → is_err r ≡ true → (faul
 few-leaves (Ok meant) h = absurd (true≢false (sym h))
 few-leaves (Err fault) h = (fault, refl)
 
--- what err has of it, where the files tell, or the line is the same whatever they hold
+-- what was printed on standard error, if the reads agree with the content or the line doesn't depend on it
 pub run-said : (words : Option Line) (old new : Outside) (status result : ℕ) (text : List ℕ) (err err_new : Stream) →
     RunEndsWith (plan_of words) old new status text → Prints text result err err_new → (status ≡ 2 → words ≡ None) →
     (status ≡ 2 → text ≡ usage) → (result ≡ status) ⊎ (result ≡ 70) → IsTrue (new.files.told || is_plain result || reads_nothing words) →

@@ -1,4 +1,4 @@
--- The rows of a command that reads files, and then refuses them or prints some lines and changes nothing.
+-- The rows for a command that reads files, and then refuses them or prints lines and changes nothing.
 use Rattle.std.proofs.Common.{◌≡◌, ◌⊎◌, ◌==◌, ◌++◌, ◌∙◌, ℕ, List, [], ◌∷◌, false, IsTrue, ap, subst, inl, inr}
 use Rattle.bar_outside.specs.Plan.{Outside, Plan, is_stop}
 use Rattle.bar_outside.specs.Plan.Action.{show}
@@ -12,14 +12,14 @@ use Rattle.bar_cli.proofs.EndLemmas.{differ}
 abbrev pub showing : List ℕ → ℕ → Plan
 showing lines final = record { actions = show lines ∷ []; status = final; line = [] }
 
--- What holds of it: the causes of a refusal by its status; of what is accepted the lines and the status, which is 0 or 1.
+-- Properties of such a command: a refusal has a cause with its status; what is accepted determines the lines and the status, 0 or 1.
 pub record SaysInOrder {A : Type 0} (causes : ℕ → Type 0) (lines : A → List ℕ) (final : A → ℕ) (old new : Outside) (status : ℕ) : Type 0
   where
-    -- at 0 and at 1 all lines were printed
+    -- at 0 and 1 all lines were printed
     pub ended : (status ≡ 0) ⊎ (status ≡ 1) → (a : A) × (status ≡ final a) × (new.out.bytes ≡ old.out.bytes ++ lines a)
     -- at a refusal nothing was printed
     pub refused : is_stop status ≡ false → (status == 0) ≡ false → (status == 1) ≡ false → IsUnchanged status old new × causes status
-    -- where a write failed, and whatever the status, a front of the lines was printed
+    -- if a write failed, and in general at every status, a prefix of the lines was printed
     pub at_output : status ≡ 7 → (a : A) × HasShown (lines a) (final a) old new status
     pub front : NothingPrinted old new ⊎ ((a : A) × HasShown (lines a) (final a) old new status)
     pub files : SameFiles old new

@@ -6,7 +6,7 @@ use Rattle.std.specs.Fmt.{decimal, digit_glyph, digits, digits_onto}
 use Rattle.bar_node.specs.Stops.{IsApart, IsFront}
 use Rattle.bar_cli.specs.SessionFiles.{AreUnlike, PeersHaveOwnNames}
 
--- ---- words that begin unlike
+-- ---- texts neither of which is a prefix of the other
 
 one-front : (a b x y : List ℕ) → a ++ x ≡ b ++ y → IsFront a b ⊎ IsFront b a
 one-front [] b x y e = inl (record { rest = b; is = refl })
@@ -59,7 +59,7 @@ no-number word n high e =
 
 -- ---- a peer's files
 
--- a file of the results that isn't one of what was found
+-- a result file that isn't one of the files of what was found
 apart : (found word : List ℕ) → 58 ≤ get_or word 0 0 → word ≢ codes "table" → IsApart (found ++ (codes "." ++ word)) found
 apart found word high differs = record {
   table = λ e. differs (append_cancel_left (codes ".") word (codes "table") (append_cancel_left found (codes "." ++ word) (codes ".table") e));

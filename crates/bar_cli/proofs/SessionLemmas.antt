@@ -1,6 +1,6 @@
--- How a session ends, and what is said of it.
+-- How `session` ends, and what is then printed.
 use Rattle.std.proofs.Common.{◌≡◌, ◌⊎◌, ◌==◌, ◌||◌, ◌++◌, ◌∙◌, ℕ, Bool, true, false, List, Some, IsTrue, refl, sym, ap, subst, take, inl, inr}
-use Rattle.bar_outside.specs.Children.{Children}
+use Rattle.bar_outside.specs.Code.Children.{Children}
 use Rattle.bar_outside.specs.Disk.{Content}
 use Rattle.bar_outside.specs.Plan.{Outside, is_stop, no_memory}
 use Rattle.bar_outside.specs.Stream.{Stream}
@@ -14,7 +14,7 @@ use Rattle.bar_cli.specs.Line.{is_status_of, session_run}
 use Rattle.bar_cli.specs.Printing.{session_may_print}
 use Rattle.bar_cli.specs.Session.{SessionEnds, SessionStopped, is_plain_end, line_of_end, session_line, session_plan}
 
--- the statuses of its children
+-- the statuses that result from its children
 pub outcome-status : (names : SessionNames) (outcome : Outcome) → IsTrue (is_status_of (Some (session_run names)) (code_of outcome))
 outcome-status names Done = refl
 outcome-status names ChildFailed = refl
@@ -33,7 +33,7 @@ outcome-prints ChildFailed = refl
 outcome-prints OutputFailed = refl
 outcome-prints NoMemory = refl
 
--- memory was wanting before anything was done
+-- memory ran out before anything was done
 pub no-session : (names : SessionNames) (old : Outside) (kids : Children) → SessionEnds names old old kids kids 70 no_memory
 no-session names old kids = record {
   files = λ told. refl;
@@ -77,7 +77,7 @@ module _ (names : SessionNames) (old new : Outside) (kids kids_new : Children) (
     | inr goes ↦ goes.line_is ∙ sym (line-late names old.files.content status goes.late)
   ]
 
-  -- what err has of it
+  -- what was printed on standard error
   pub session-said : (result : ℕ) (err err_new : Stream) → SessionEnds names old new kids kids_new status line →
       Prints line result err err_new → (result ≡ status) ⊎ (result ≡ 70) → IsTrue (new.files.told || is_plain_end result) →
       SaysBy (session_line names old.files.content) result err err_new

@@ -1,4 +1,4 @@
--- What a peer sent over its link, by how it stands.
+-- What a peer sent over its link, by how far it got.
 use Rattle.std.proofs.Common.{◌≡◌, ◌≤◌, ◌∙◌, ◌==◌, ℕ, List, [], ◌∷◌, ◌++◌, length, refl, sym, ap, subst, inl, inr, append-nil, append_assoc, arith}
 use Rattle.std.proofs.lemmas.Bool.{cases_Bool, eqb-true}
 use Rattle.bar_outside.specs.Plan.{Outside}
@@ -12,7 +12,7 @@ use Rattle.bar_rules.specs.Member.{Member}
 use Rattle.bar_rules.specs.Members.{member_by}
 use Rattle.bar_rules.specs.Peer.Run.{sends_of}
 use Rattle.bar_laws.specs.Always.{OfEachPeer}
-use Rattle.bar_peer.specs.Runs.{RulesSend}
+use Rattle.bar_peer.specs.Code.Runs.{RulesSend}
 use Rattle.bar_node.specs.Runs.{taken_of}
 use Rattle.bar_node.specs.Stops.{IsFront}
 use Rattle.bar_node.proofs.Doing.{none-more}
@@ -25,9 +25,9 @@ use Rattle.bar_cli.proofs.EndLemmas.{differ}
 use Rattle.bar_session_files.proofs.Accepted.{AreHeld, AreInRange}
 use Rattle.bar_cli.proofs.MemberLemmas.{at-each_moment}
 
--- ---- all of the inputs before the last one that was begun was sent
+-- ---- everything of the inputs before the last begun one was sent
 
--- two lists with a last one have one front
+-- two equal lists with a last element have the same prefix before it
 pub same-front : (xs ys : List Input) (x y : Input) → xs ++ x ∷ [] ≡ ys ++ y ∷ [] → xs ≡ ys
 same-front [] [] x y e = refl
 same-front [] (b ∷ ys) x y e = let f : [] ≡ ys ++ y ∷ [] = cc in absurd (none-more ys y [] f)
@@ -37,7 +37,7 @@ same-front (a ∷ xs) (b ∷ ys) x y e =
     let rest : xs ++ x ∷ [] ≡ ys ++ y ∷ [] = cc in
     ap (λ v. v ∷ xs) f ∙ ap (λ vs. b ∷ vs) (same-front xs ys x y rest)
 
--- whatever front of what the last inputs send was sent, of which there is one at most
+-- everything that the inputs before the last begun one send was sent, whatever prefix `more` of the last one's sends was sent
 earlier-sent : (r : Rules) (whole last : List Input) (more : List Send) → length last ≤ 1 → (earlier : List Input) (x : Input) →
     whole ++ last ≡ earlier ++ x ∷ [] → IsFront (sends_over r [] earlier) (sends_over r [] whole ++ more)
 earlier-sent r whole [] more few earlier x e =
@@ -53,11 +53,11 @@ earlier-sent r whole (y ∷ []) more few earlier x e =
     record { rest = more; is = ap (λ xs. sends_over r [] xs ++ more) (same-front whole earlier y x e) }
 earlier-sent r whole (y ∷ z ∷ others) more few earlier x e = absurd (omega arith)
 
--- ---- by how it stands
+-- ---- by how far it got
 
 module _ (held : AreHeld) (ranged : AreInRange) (keeps : OfEachPeer KeepsTheRules) (sends : RulesSend) (names : PeerNames)
     (old new : Outside) (status : ℕ) where
-  -- it was done
+  -- the run completed
   spoke-done : PeerDone names old new → PeerSpoke names old new status
   spoke-done d =
       let s : SessionData = d.session in
@@ -85,7 +85,7 @@ module _ (held : AreHeld) (ranged : AreInRange) (keeps : OfEachPeer KeepsTheRule
         kept = at-each_moment held ranged KeepsTheRules keeps names old.files.content s k d.is_of.accepted all;
       }
 
-  -- it was stopped behind the binding of its link
+  -- the run was stopped after its link was bound
   spoke-stopped : (status ≡ 0 → ⊥) → PeerStopped names old new → PeerSpoke names old new status
   spoke-stopped other p =
       let s : SessionData = p.session in

@@ -1,19 +1,19 @@
--- The statuses that each command has.
+-- The statuses of each command.
 use Rattle.std.proofs.Common.{◌≡◌, ◌≢◌, ◌⊎◌, ◌==◌, ◌||◌, ℕ, Bool, true, false, List, [], Option, None, Some, Result, Ok, Err, IfOk, IsTrue, refl, sym, ap, ◌∙◌, subst, inl, inr, arith, true≢false}
 use Rattle.std.proofs.lemmas.Bool.{eqb-true}
-use Rattle.bar_outside.specs.Causes.{Rose}
+use Rattle.bar_outside.specs.Code.Causes.{Rose}
 use Rattle.bar_outside.specs.Disk.{Content}
 use Rattle.bar_outside.specs.Stream.{Stream}
 use Rattle.bar_outside.specs.Wire.{no_traffic}
 use Rattle.bar_outside.specs.Plan.{Outside, with_out, Action, Plan}
-use Rattle.bar_outside.specs.Faults.{code_of_fault}
-use Rattle.bar_outside.specs.Follows.{Follows}
+use Rattle.bar_outside.specs.Code.Faults.{code_of_fault}
+use Rattle.bar_outside.specs.Code.Follows.{Follows}
 use Rattle.bar_outside.specs.Ends.{EndsWith}
 use Rattle.bar_outside.specs.declared.fault.Fault.{Fault}
 use Rattle.bar_outside.specs.declared.fault.Fault.TheVariants.{File, Link, Output, NoMemory as WantOfMemory}
 use Rattle.bar_party_commands.specs.CasterPlan.{CasterNames}
 use Rattle.bar_party_commands.specs.PeerPlan.{PeerNames}
-use Rattle.bar_party_commands.specs.Views.{code_of_run as live_code_of_run}
+use Rattle.bar_party_commands.specs.Code.Views.{code_of_run as live_code_of_run}
 use Rattle.bar_party_commands.specs.declared.ended.Ended.{Ended}
 use Rattle.bar_party_commands.specs.declared.ended.Ended.TheVariants as live
 use Rattle.bar_cli.specs.Audit.Plan.{AuditFiles}
@@ -30,7 +30,7 @@ use Rattle.bar_cli.specs.Verify.{VerifyFiles}
 use Rattle.bar_cli.specs.Replay.Plan.{ReplayFiles}
 use Rattle.bar_cli.specs.Keygen.Plan.{Keygen}
 
--- an outside over which nothing failed
+-- an outside in which nothing failed
 abbrev pub quiet : Outside
 quiet = record {
   files = record { told = false; reliable = false; content = λ path. None; created_here = λ path. false; failed = None; faults = 0 };
@@ -38,17 +38,17 @@ quiet = record {
   wire = record { reliable = false; traffic = no_traffic; faults = 0 };
 }
 
--- what holds over any files doesn't fail by them
+-- what holds over any files doesn't fail because of them
 pub never-file : {T : Type 0} (plan : List Action) (old new : Stream) (r : Result T Fault) →
     ((w : Outside) → Follows plan (with_out w old) (with_out w new) r) → r ≡ Err File → ⊥
 never-file plan old new r follows e = let h : Rose 0 0 = ((follows quiet).file (rw e refl)).rose in absurd (omega arith)
 
--- what was done where the count of the link stayed as it was doesn't fail by the link
+-- if the fault count of the link didn't rise, the fault isn't one of the link
 pub never-link : {T : Type 0} (plan : List Action) (old new : Outside) (r : Result T Fault) → old.wire.faults ≡ 0 → new.wire.faults ≡ 0 →
     Follows plan old new r → r ≡ Err Link → ⊥
 never-link plan old new r before after follows e = let h = follows.link (rw e refl) in absurd (omega arith)
 
--- nor does a command end so
+-- in this case a command doesn't end with 6
 pub never-six : (plan : Content → Plan) (old new : Outside) (status : ℕ) (line : List ℕ) → old.wire.faults ≡ 0 → new.wire.faults ≡ 0 →
     EndsWith plan old new status line → status ≡ 6 → ⊥
 never-six plan old new status line before after ends e = let h = ends.ends.link_rose e in absurd (omega arith)
@@ -58,14 +58,14 @@ pub never-linked : (plan : Content → Plan) (old new : Outside) (ended : Result
 never-linked plan old new ended line before after ends e =
     never-six plan old new (code_of_run ended) line before after ends (ap code_of_run e)
 
--- a fault is no refusal
+-- a fault's status isn't that of a refusal
 pub no-refusal : (fault : Fault) → code_of_fault fault ≢ 4
 no-refusal File = λ e. absurd (omega arith)
 no-refusal Link = λ e. absurd (omega arith)
 no-refusal Output = λ e. absurd (omega arith)
 no-refusal WantOfMemory = λ e. absurd (omega arith)
 
--- of the faults only those of the files and of the link come with nothing printed at `keygen`
+-- if `keygen` may not have printed anything, a fault is one of the files or of the link
 pub unprinted-at : (fault : Fault) (P : Type 0) → (fault ≡ File → P) → (fault ≡ Link → P) →
     keygen_may_print (code_of_fault fault) ≡ false → P
 unprinted-at File P h k e = h refl
@@ -73,21 +73,21 @@ unprinted-at Link P h k e = k refl
 unprinted-at Output P h k e = absurd cc
 unprinted-at WantOfMemory P h k e = absurd cc
 
--- at a replay only that of the link
+-- if a replay may not have printed anything, a fault is one of the link
 pub unshown-at : (fault : Fault) (P : Type 0) → (fault ≡ Link → P) → replay_may_print (code_of_fault fault) ≡ false → P
 unshown-at File P h e = absurd cc
 unshown-at Link P h e = h refl
 unshown-at Output P h e = absurd cc
 unshown-at WantOfMemory P h e = absurd cc
 
--- at `audit` those of the files and of the link
+-- if `audit` may not have printed anything, a fault is one of the files or of the link
 pub untold-at : (fault : Fault) (P : Type 0) → (fault ≡ File → P) → (fault ≡ Link → P) → audit_may_print (code_of_fault fault) ≡ false → P
 untold-at File P h k e = h refl
 untold-at Link P h k e = k refl
 untold-at Output P h k e = absurd cc
 untold-at WantOfMemory P h k e = absurd cc
 
--- at `judge` those of the files and of the link
+-- if `judge` may not have printed anything, a fault is one of the files or of the link
 pub unsaid-at : (fault : Fault) (P : Type 0) → (fault ≡ File → P) → (fault ≡ Link → P) → judge_may_print (code_of_fault fault) ≡ false → P
 unsaid-at File P h k e = h refl
 unsaid-at Link P h k e = k refl
@@ -121,7 +121,7 @@ replay-statuses names (Err Link) h other = absurd (other refl)
 replay-statuses names (Err Output) h other = refl
 replay-statuses names (Err WantOfMemory) h other = refl
 
--- those of `keygen`
+-- the statuses of `keygen`
 pub keygen-statuses : (asked : Keygen) (ended : Result Status Fault) → IfOk ended (λ status. IsTrue (is_keygen_end status)) →
     (ended ≡ Err Link → ⊥) →
     IsTrue (is_status_of (Some (keygen asked)) (code_of_run ended))
@@ -148,7 +148,7 @@ keygen-statuses asked (Err Link) h other = absurd (other refl)
 keygen-statuses asked (Err Output) h other = refl
 keygen-statuses asked (Err WantOfMemory) h other = refl
 
--- those of `audit`
+-- the statuses of `audit`
 pub audit-statuses : (names : AuditFiles) (ended : Result Status Fault) → IfOk ended (λ status. IsTrue (is_audit_end status)) →
     (ended ≡ Err Link → ⊥) →
     IsTrue (is_status_of (Some (audit names)) (code_of_run ended))
@@ -175,7 +175,7 @@ audit-statuses names (Err Link) h other = absurd (other refl)
 audit-statuses names (Err Output) h other = refl
 audit-statuses names (Err WantOfMemory) h other = refl
 
--- those of `judge`
+-- the statuses of `judge`
 pub judge-statuses : (names : JudgeFiles) (ended : Result Status Fault) → IfOk ended (λ status. IsTrue (is_judge_end status)) →
     (ended ≡ Err Link → ⊥) →
     IsTrue (is_status_of (Some (judge names)) (code_of_run ended))
@@ -202,9 +202,9 @@ judge-statuses names (Err Link) h other = absurd (other refl)
 judge-statuses names (Err Output) h other = refl
 judge-statuses names (Err WantOfMemory) h other = refl
 
--- those of `pack` and of `verify`
+-- the statuses of `pack` and of `verify`
 
--- the statuses without a fault are some of them
+-- the statuses without a fault are among them
 proof-status : (status : ℕ) → IsTrue (is_proof_end status) →
     IsTrue (status == 0 || status == 1 || status == 3 || status == 4 || status == 7 || status == 8 || status == 70)
 proof-status status h = by_tests (status == 0) (status == 1) (status == 3) (status == 4) (status == 7) (status == 8) (status == 70) h
@@ -234,14 +234,14 @@ verify-statuses names (Err Link) h other = absurd (other refl)
 verify-statuses names (Err Output) h other = refl
 verify-statuses names (Err WantOfMemory) h other = refl
 
--- a verdict that was printed ends so
+-- the status of a command that printed a verdict
 pub proof-end : (v : Verdict) (ended : Result Status Fault) → IfOk ended (λ status. code_of status ≡ status_of_verdict v) →
     IfOk ended (λ status. IsTrue (is_proof_end (code_of status)))
 proof-end (Shown party fault) (Ok status) h = ap is_proof_end h
 proof-end (NotShown why) (Ok status) h = ap is_proof_end h
 proof-end v (Err fault) h = tt
 
--- those of `simulate`
+-- the statuses of `simulate`
 pub simulate-statuses : (seed : ℕ) (ended : Result Status Fault) → IfOk ended (λ status. status ≡ Done) → (ended ≡ Err File → ⊥) →
     (ended ≡ Err Link → ⊥) → IsTrue (is_status_of (Some (simulate seed)) (code_of_run ended))
 simulate-statuses seed (Ok status) h file link = rw h refl
@@ -250,12 +250,12 @@ simulate-statuses seed (Err Link) h file link = absurd (link refl)
 simulate-statuses seed (Err Output) h file link = refl
 simulate-statuses seed (Err WantOfMemory) h file link = refl
 
--- what holds of any outside doesn't end by its files
+-- what holds for any outside doesn't end because of its files
 pub never-filed : (plan : Content → Plan) (old new : Outside) (ended : Result Status Fault) (line : List ℕ) → old.files.faults ≡ 0 →
     new.files.faults ≡ 0 → EndsWith plan old new (code_of_run ended) line → ended ≡ Err File → ⊥
 never-filed plan old new ended line before after ends e = let h = ends.ends.file_rose (ap code_of_run e) in absurd (omega arith)
 
--- those of `peer`, which has no stream
+-- the statuses of `peer`, which has no stream
 pub peer-statuses : (names : PeerNames) (ended : Result Ended Fault) → live_code_of_run ended ≢ 8 →
     IsTrue (is_status_of (Some (peer names)) (live_code_of_run ended))
 peer-statuses names (Ok live.Done) h = refl
@@ -267,7 +267,7 @@ peer-statuses names (Err Link) h = refl
 peer-statuses names (Err Output) h = refl
 peer-statuses names (Err WantOfMemory) h = refl
 
--- those of `broadcaster`
+-- the statuses of `broadcaster`
 pub broadcaster-statuses : (names : CasterNames) (ended : Result Ended Fault) →
     IsTrue (is_status_of (Some (broadcaster names)) (live_code_of_run ended))
 broadcaster-statuses names (Ok live.Done) = refl
@@ -279,7 +279,7 @@ broadcaster-statuses names (Err Link) = refl
 broadcaster-statuses names (Err Output) = refl
 broadcaster-statuses names (Err WantOfMemory) = refl
 
--- want of memory may come of all words
+-- memory may run out for any arguments
 pub memory-status : (line : Option Line) → IsTrue (is_status_of line 70)
 memory-status None = refl
 memory-status (Some (peer names)) = refl
@@ -293,13 +293,13 @@ memory-status (Some (verify names)) = refl
 memory-status (Some (session_run names)) = refl
 memory-status (Some (simulate seed)) = refl
 
--- and in place of any status
+-- running out of memory may replace any status
 pub or-memory : (line : Option Line) (status result : ℕ) → IsTrue (is_status_of line status) → (result ≡ status) ⊎ (result ≡ 70) →
     IsTrue (is_status_of line result)
 or-memory line status result h (inl e) = rw e h
 or-memory line status result h (inr e) = rw e (memory-status line)
 
--- where words are no line, there are two statuses
+-- if the arguments aren't a valid command line, there are two statuses
 pub no-line : (status : ℕ) → IsTrue (is_status_of None status) → (status ≡ 2) ⊎ (status ≡ 70)
 no-line status h = by_test (status == 2) refl h
   where
@@ -307,7 +307,7 @@ no-line status h = by_test (status == 2) refl h
     by_test true e h = inl (eqb-true status 2 e)
     by_test false e h = inr (eqb-true status 70 h)
 
--- a command has not the status of words that are no line
+-- a command doesn't have the status for invalid arguments
 pub no-usage : (line : Line) (status : ℕ) → IsTrue (is_status_of (Some line) status) → status ≡ 2 → ⊥
 no-usage line status h e = at-two line (subst (λ n. IsTrue (is_status_of (Some line) n)) e h)
   where
@@ -323,7 +323,7 @@ no-usage line status h e = at-two line (subst (λ n. IsTrue (is_status_of (Some 
     at-two (session_run names) h = cc
     at-two (simulate seed) h = cc
 
--- this status has one line
+-- the status for invalid arguments has one line
 pub said-at_two : (status : Status) → code_of status ≡ 2 → said_at status ≡ usage
 said-at_two Done e = absurd (omega arith)
 said-at_two NoFault e = absurd (omega arith)
@@ -344,7 +344,7 @@ said-at_two (ProofRefused fault) e = absurd (omega arith)
 said-at_two ChildFailed e = absurd (omega arith)
 said-at_two NoMemory e = absurd (omega arith)
 
--- a command whose status may show nothing shows nothing where want of memory comes in place of it
+-- if a status may print nothing, nothing is printed either if running out of memory replaces it
 pub unprinted-by : (line : Option Line) (status result : ℕ) (P : Type 0) → (may_print line status ≡ false → P) →
     (result ≡ status) ⊎ (result ≡ 70) → may_print line result ≡ false → P
 unprinted-by line status result P h (inl e) none = h (ap (may_print line) (sym e) ∙ none)

@@ -1,4 +1,4 @@
--- The turns of a replay and the rules of its peer: what a run leaves.
+-- The turns of a replay play and show what the rules of its peer play and send.
 use Rattle.std.proofs.Common.{◌≡◌, ℕ, ◌+◌, List, [], ◌∷◌, ◌++◌, refl, sym, ap, ◌∙◌, map}
 use Rattle.std.specs.List.{concat}
 use Rattle.std.proofs.lemmas.Grind.{flat_map-append}
@@ -9,9 +9,9 @@ use Rattle.bar_rules.specs.Runs.{played_from, sends_from}
 use Rattle.bar_rules.specs.Peer.Log.{Log}
 use Rattle.bar_rules.specs.Peer.Run.{step}
 use Rattle.bar_cli.specs.Replay.Transcript.{line_of_sent, lines_of_sends, transcript}
-use Rattle.bar_cli.specs.Replay.Turns.{turns_from, played_bytes, shown_bytes}
+use Rattle.bar_cli.specs.Code.Turns.{turns_from, played_bytes, shown_bytes}
 
--- the turns have what the rules play
+-- the turns play what the rules play
 pub played-turns : (me : Member) (n : ℕ) (log : Log) (inputs : List Input) →
     played_bytes (turns_from me n log inputs) ≡ played_from (step me) log inputs
 played-turns me n log [] = refl

@@ -1,4 +1,4 @@
--- What a part of some turns leaves.
+-- The effects of turns that were done in part.
 use Rattle.std.proofs.Common.{Option, ◌≡◌, ◌⊎◌, ℕ, ◌+◌, List, [], ◌∷◌, ◌++◌, Some, IsTrue, refl, sym, ap, ◌∙◌, map, length, take, append-nil, append_assoc, inl, inr, subst, min}
 use Rattle.std.proofs.lemmas.Grind.{flat_map-append}
 use Rattle.std.proofs.Math.Seq.{take-append-add, take-length}
@@ -11,7 +11,7 @@ use Rattle.bar_outside.proofs.Contents.{put_at-same}
 use Rattle.bar_outside.proofs.ActionLists.{content_after-append, shown-append, nil-cons, Begun-first, Begun-both, Begun-none, files-next, show-next, no-next, part-create}
 use Rattle.bar_outside.proofs.Stages.{part-shown}
 use Rattle.bar_outside.proofs.Unlinked.{IsUnlinked, no-link, same-traffic}
-use Rattle.bar_cli.specs.Replay.Turns.{Turn, turn_actions, turns_actions, played_bytes, shown_bytes}
+use Rattle.bar_cli.specs.Code.Turns.{Turn, turn_actions, turns_actions, played_bytes, shown_bytes}
 use Rattle.bar_outside.proofs.Appends.{appends-same, begun-appends, no-show, shown-appends, take-more}
 use Rattle.bar_cli.proofs.ReplayLemmas.{turn-played, shown-turn}
 
@@ -38,7 +38,7 @@ begun-shows (x ∷ xs) done b =
       ]
     ]
 
--- among lines no action is of the files
+-- no action that shows a line is an action on the files
 no-file : (lines : List (List ℕ)) (front rest : List Action) → map show lines ≡ front ++ rest → IsFilesNext rest → ⊥
 no-file [] [] rest p h = subst IsFilesNext (sym p) h
 no-file (x ∷ xs) [] rest p h = subst IsFilesNext (sym p) h
@@ -47,8 +47,8 @@ no-file (x ∷ xs) (f ∷ fs) rest p h = let q : map show xs ≡ fs ++ rest = cc
 
 -- ---- turns
 
--- A file has what earlier turns play behind what was held, and a front of what this one plays; what was printed is what earlier turns show,
--- and a front of what this one shows. What is next tells which of this turn's is whole, or was not begun.
+-- A file contains what earlier turns play after its old content, and a prefix of what this turn plays. What was printed is what earlier
+-- turns show, and a prefix of what this turn shows. The next action determines which of this turn's parts is whole, or was not begun.
 pub record IsUpTo (turns : List Turn) (held : List ℕ) (file : Option (List ℕ)) (bytes : List ℕ) (next : List Action) : Type 0 where
   pub earlier : List Turn
   pub this : Turn
@@ -62,7 +62,7 @@ pub record IsUpTo (turns : List Turn) (held : List ℕ) (file : Option (List ℕ
   pub at_file : IsFilesNext next → shown_count ≡ 0
   pub at_output : IsShowNext next → take played_count (concat this.contents) ≡ concat this.contents
 
--- some of a turn was done, and its next action is there
+-- a part of a turn was done, and it has a next action
 in-turn : (played held : List ℕ) (t : Turn) (later : List Turn) (content : Content) (done : List Action) → content played ≡ Some held →
     (first : Action) (others more : List Action) (m : Begun (turn_actions played t) done) → m.rest ≡ first ∷ others →
     IsUpTo (t ∷ later) held (content_after done content played) (shown done) (first ∷ more)
@@ -115,11 +115,11 @@ in-turn played held t later content done there first others more m is =
 one-more : (held x rest front : List ℕ) → (held ++ x) ++ (rest ++ front) ≡ held ++ ((x ++ rest) ++ front)
 one-more held x rest front = append_assoc held x (rest ++ front) ∙ ap (λ bytes. held ++ bytes) (sym (append_assoc x rest front))
 
--- nothing was to be done, or so far it was done
+-- there was nothing to do, or it was done up to this point
 abbrev AreUpTo : List Turn → List ℕ → Option (List ℕ) → List Action → List Action → Type 0
 AreUpTo turns held file done next = ((turns ≡ []) × (done ≡ []) × (next ≡ [])) ⊎ IsUpTo turns held file (shown done) next
 
--- a turn was done, and some of those behind it
+-- a turn was done, and a part of the following turns
 behind-turn : (played held : List ℕ) (t : Turn) (ts : List Turn) (content : Content) (done more next : List Action) →
     content played ≡ Some held → done ≡ turn_actions played t ++ more →
     AreUpTo ts (held ++ concat t.contents) (content_after more (content_after (turn_actions played t) content) played) more next →
@@ -178,13 +178,13 @@ up-to played held (t ∷ ts) content done there b =
           (behind-turn played held t ts content done m.0 m.2.rest there m.1 behind))
     ]
 
--- bytes and a front of more are a front of all
+-- a list followed by a prefix of another is a prefix of their concatenation
 pub front-of : (before this later : List ℕ) (k : ℕ) →
     before ++ take k this ≡ take (length before + min k (length this)) (before ++ (this ++ later))
 front-of before this later k =
     sym (take-append-add before (this ++ later) (min k (length this)) ∙ ap (λ bytes. before ++ bytes) (take-more k this later))
 
--- what earlier turns play and a front of what one more plays is a front of what all play, and so it is of what they show
+-- what earlier turns and a prefix of the next one play is a prefix of what all turns play; the same holds for what they show
 pub front-played : (turns earlier : List Turn) (this : Turn) (later : List Turn) (count : ℕ) → turns ≡ earlier ++ this ∷ later →
     (k : ℕ) × (played_bytes earlier ++ take count (concat this.contents) ≡ take k (played_bytes turns))
 front-played turns earlier this later count is =
@@ -201,9 +201,9 @@ front-shown turns earlier this later count is =
     let k : ℕ = length (shown_bytes earlier) + min count (length (concat this.lines)) in
     (k, front-of (shown_bytes earlier) (concat this.lines) (shown_bytes later) count ∙ ap (take k) (sym all))
 
--- ---- a file that is created, and turns behind it
+-- ---- a file that is created, and the turns after it
 
--- the files are as they were, nothing was printed, and the next action doesn't print
+-- the files are unchanged, nothing was printed, and the next action doesn't print
 pub record IsQuietAt (content c : Content) (bytes : List ℕ) (next : List Action) : Type 0 where
   pub files : c ≡ content
   pub out : bytes ≡ []
@@ -213,7 +213,7 @@ pub quiet-none : (content : Content) (done next : List Action) → done ≡ [] �
     IsQuietAt content (content_after done content) (shown done) next
 quiet-none content done next e none = record { files = ap (λ xs. content_after xs content) e; out = ap shown e; silent = none }
 
--- so nothing was changed or printed
+-- in this case nothing was changed or printed
 pub unchanged-by : (plan : List Action) (status : ℕ) (old new : Outside) → IsTrue new.files.told → IsUnlinked plan →
     (d : Reached plan status old new) →
     IsQuietAt old.files.content (content_after d.done old.files.content) (shown d.done) d.begun.rest → IsUnchanged status old new
@@ -225,13 +225,13 @@ unchanged-by plan status old new told unlinked d quiet = record {
   no_output = λ e. quiet.silent (d.at_output e);
 }
 
--- a file was made and is empty, nothing was printed, and the next action doesn't print
+-- a file was created and is empty, nothing was printed, and the next action doesn't print
 pub record IsMadeAt (file : Option (List ℕ)) (bytes : List ℕ) (next : List Action) : Type 0 where
   pub made : file ≡ Some []
   pub out : bytes ≡ []
   pub silent : IsShowNext next → ⊥
 
--- nothing was done, or the file was made, or the turns were done so far
+-- nothing was done, or the file was created, or the turns were done up to this point
 unfoldable pub IsStopped : List ℕ → List Turn → Content → Content → List ℕ → List Action → Type 0
 IsStopped played turns content c bytes next =
     IsQuietAt content c bytes next ⊎ (IsMadeAt (c played) bytes next ⊎ IsUpTo turns [] (c played) bytes next)

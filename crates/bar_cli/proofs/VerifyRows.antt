@@ -1,4 +1,4 @@
--- The rows of the status table, from how `verify` ended.
+-- The rows of the status table, derived from how `verify` ended.
 use Rattle.std.proofs.Common.{◌≡◌, ◌⊎◌, ◌==◌, ℕ, List, IsTrue, refl, inl, inr}
 use Rattle.bar_outside.specs.Disk.{Content}
 use Rattle.bar_outside.specs.Plan.{Outside, Plan}
@@ -30,7 +30,7 @@ pub unlinked-plan : (names : VerifyFiles) (content : Content) → IsUnlinked (ve
 unlinked-plan names content = unlinked-within (IsVerifyCall names) (verify_stages names) content (within names)
 
 module _ (names : VerifyFiles) (content : Content) where
-  -- what was refused, by the status
+  -- the cause of a refusal, by the status
   abbrev pub Causes : ℕ → Type 0
   Causes status =
       cause_at (status == 4) ((fault : SessionFault) × HasBadSession names.session content fault)
@@ -68,7 +68,7 @@ module _ (names : VerifyFiles) (old new : Outside) (status : ℕ) (told : IsTrue
       says-in-order (Causes names content) line final old new status (λ a. verdict-small a.0) (λ why. why) (λ why. why) (verify_stages names)
       told (sorts names content) order.gone
 
-  -- a verdict of this status was printed
+  -- the verdict with this status was printed
   pub verified : ProofsAreSpelled → (status ≡ 0) ⊎ (status ≡ 1) → HasVerified names status old new
   verified spells which =
       let a = verify-order.ended which in

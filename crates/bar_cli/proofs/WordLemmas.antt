@@ -1,4 +1,4 @@
--- A command's line, from the values of its options.
+-- A command line, from the values of its options.
 use Rattle.std.proofs.Common.{◌≡◌, ℕ, Bool, true, false, List, [], ◌∷◌, Option, None, Some, Result, Ok, Err, IfOk, refl, sym, ap, ◌∙◌, length, arith, slice_index_or, if◌then◌else◌, codes}
 use Rattle.std.proofs.lemmas.Slice.Eq.{bytes_eq-Decides}
 use Rattle.std.specs.Str.{bytes_eq}
@@ -14,7 +14,7 @@ use Rattle.bar_arguments.specs.declared.options.WordsFault.TheVariants.{Usage}
 use Rattle.bar_cli.specs.Line.{Line, asked_by, command_named, hsskeygen_values, keygen, keygen_values}
 use Rattle.bar_cli.specs.declared.line.name.CommandName.TheVariants as commands
 
--- the values are found, and say what is asked for
+-- the values are found, and they are valid
 pub line-found : {A : Type 0} (view : A → Line) (meant : List (List ℕ) → Option Line) (values : List (List ℕ))
     (given : Option (List (List ℕ)))
     (found : Option A) (r : Result A WordsFault) → given ≡ Some values → option_map view found ≡ meant values → r ≡ ok_or found Usage →
@@ -25,7 +25,7 @@ line-found view meant values given (Some a) (Err fault) is says e = absurd cc
 line-found view meant values given None (Ok b) is says e = absurd cc
 line-found view meant values given None (Err fault) is says e = tt
 
--- or they say nothing
+-- the values are found, but they aren't valid
 pub line-missed : {A : Type 0} (view : A → Line) (meant : List (List ℕ) → Option Line) (values : List (List ℕ))
     (given : Option (List (List ℕ)))
     (found : Option A) (r : Result A WordsFault) → given ≡ Some values → option_map view found ≡ meant values → r ≡ ok_or found Usage →
@@ -52,7 +52,7 @@ none-of : (p b r k t u j a v s m : Bool) → p ≡ false → b ≡ false → r �
     ≡ None
 none-of p b r k t u j a v s m e f g h o x i q w l n = rw (e, f, g, h, o, x, i, q, w, l, n) refl
 
--- another word names no command
+-- any other argument names no command
 pub no-command : (word : List ℕ) → (word ≡ codes "peer" → ⊥) → (word ≡ codes "broadcaster" → ⊥) → (word ≡ codes "replay" → ⊥) →
     (word ≡ codes "keygen" → ⊥) → (word ≡ codes "hsskeygen" → ⊥) → (word ≡ codes "audit" → ⊥) → (word ≡ codes "judge" → ⊥) →
     (word ≡ codes "pack" → ⊥) → (word ≡ codes "verify" → ⊥) → (word ≡ codes "session" → ⊥) → (word ≡ codes "simulate" → ⊥) →
@@ -83,7 +83,7 @@ seven-are (p ∷ i ∷ r ∷ l ∷ o ∷ s ∷ []) d e = absurd (omega arith)
 seven-are (p ∷ i ∷ r ∷ l ∷ o ∷ s ∷ k ∷ []) d e = refl
 seven-are (p ∷ i ∷ r ∷ l ∷ o ∷ s ∷ k ∷ x ∷ xs) d e = absurd (omega arith)
 
--- more or fewer ask for nothing
+-- more or fewer values are invalid
 pub not-seven : (xs : List (Bor (List ℕ))) → (length xs ≡ 7 → ⊥) → None ≡ keygen_values (texts xs)
 not-seven [] h = refl
 not-seven (p ∷ []) h = refl
@@ -95,7 +95,7 @@ not-seven (p ∷ i ∷ r ∷ l ∷ o ∷ s ∷ []) h = refl
 not-seven (p ∷ i ∷ r ∷ l ∷ o ∷ s ∷ k ∷ []) h = absurd (h refl)
 not-seven (p ∷ i ∷ r ∷ l ∷ o ∷ s ∷ k ∷ x ∷ xs) h = refl
 
--- of `hsskeygen`, as many
+-- the same for `hsskeygen`
 pub not-seven-levels : (xs : List (Bor (List ℕ))) → (length xs ≡ 7 → ⊥) → None ≡ hsskeygen_values (texts xs)
 not-seven-levels [] h = refl
 not-seven-levels (p ∷ []) h = refl
@@ -107,7 +107,7 @@ not-seven-levels (p ∷ i ∷ r ∷ l ∷ o ∷ s ∷ []) h = refl
 not-seven-levels (p ∷ i ∷ r ∷ l ∷ o ∷ s ∷ k ∷ []) h = absurd (h refl)
 not-seven-levels (p ∷ i ∷ r ∷ l ∷ o ∷ s ∷ k ∷ x ∷ xs) h = refl
 
--- what they ask for, where each is in its range
+-- what the values request, if each is in its range
 pub keygen-asked : (most : ℕ) (types : Option (Option Height × Params)) (party_word id_word rounds_word secret key : List ℕ)
     (party : ℕ) (id : List ℕ) (rounds : ℕ) (levels : Option Height × Params) →
     Some party ≡ number_in 0 most_peers party_word → Some id ≡ id_of id_word → Some rounds ≡ number_in 1 most rounds_word → Some levels ≡ types →

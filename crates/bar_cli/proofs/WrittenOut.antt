@@ -1,9 +1,9 @@
--- A replay is the played file, and then a node's replay over the rules of its peer.
+-- A replay consists of the creation of the played file and a node's replay by the rules of its peer.
 use Rattle.std.proofs.Common.{◌≡◌, List, [], ◌∷◌, ◌++◌, Result, Ok, Err, ap, ◌∙◌, subst}
 use Rattle.bar_outside.specs.declared.fault.Fault.{Fault}
 use Rattle.bar_outside.specs.Plan.{Outside}
 use Rattle.bar_outside.specs.Plan.Action.{create}
-use Rattle.bar_outside.specs.Follows.{Follows}
+use Rattle.bar_outside.specs.Code.Follows.{Follows}
 use Rattle.bar_outside.proofs.Following.{followed, stopped}
 use Rattle.bar_record.specs.Pacing.{paced}
 use Rattle.bar_wire.specs.Inputs.{Input}
@@ -15,10 +15,10 @@ use Rattle.bar_node.specs.Runs.{replay_plan}
 use Rattle.bar_peer.specs.Core.{peer_rules}
 use Rattle.bar_cli.specs.Replay.Found.{found_by}
 use Rattle.bar_cli.specs.Replay.Plan.{ReplayFiles, playing_actions, replay_actions}
-use Rattle.bar_cli.specs.Replay.Turns.{Turn, turns_actions, turns_from}
+use Rattle.bar_cli.specs.Code.Turns.{Turn, turns_actions, turns_from}
 use Rattle.bar_cli.proofs.CoreTurns.{core-turns}
 
--- the played file was not made
+-- the played file wasn't created
 pub unmade : (names : ReplayFiles) (turns : List Turn) (findings : List Finding) (old new : Outside) (fault : Fault) →
     Follows {T = Unit {0}} (create names.played ∷ []) old new (Err fault) →
     Follows {T = Unit {0}} (replay_actions names turns findings) old new (Err fault)
@@ -26,7 +26,7 @@ unmade names turns findings old new fault f =
     stopped (playing_actions names.played turns) (findings_actions findings) old new fault
     (stopped (create names.played ∷ []) (turns_actions names.played turns) old new fault f)
 
--- the node's plan over the rules of a peer is what the turns and the findings leave
+-- the node's plan by the rules of a peer equals the turns and the findings
 plan-by_rules : (names : ReplayFiles) (me : Member) (inputs : List Input) →
     replay_plan names.played names.found (peer_rules me) inputs
     ≡ turns_actions names.played (turns_from me 1 [] (paced (last_tick me.session) inputs))
@@ -35,7 +35,7 @@ plan-by_rules names me inputs =
     ap (λ acts. acts ++ findings_actions (found_by names.found me (paced (last_tick me.session) inputs)))
     (core-turns names.played me [] (paced (last_tick me.session) inputs))
 
--- it was made, and the node's replay was done, maybe up to a fault
+-- the played file was created, and the node's replay was done, possibly up to a fault
 pub written-out : {T : Type 0} (names : ReplayFiles) (me : Member) (rules : Rules) (inputs : List Input) (old made new : Outside)
     (r : Result T Fault) →
     rules ≡ peer_rules me → Follows {T = Unit {0}} (create names.played ∷ []) old made (Ok tt) →

@@ -1,4 +1,4 @@
--- What `audit` does, what it prints, and what then stands.
+-- What `audit` does, what it prints, and what holds afterwards.
 pub mod Text
 pub mod Plan
 pub mod Audited

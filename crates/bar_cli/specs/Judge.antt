@@ -1,3 +1,3 @@
--- What `judge` does, and what it judges by, which `pack` and `verify` share.
+-- What `judge` does, and the verdicts on evidence, which `pack` and `verify` use as well.
 pub mod Judging
 pub mod Plan

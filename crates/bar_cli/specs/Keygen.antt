@@ -1,3 +1,3 @@
--- What `keygen` and `hsskeygen` do, and which types words name.
+-- What `keygen` and `hsskeygen` do, and which types their arguments name.
 pub mod Types
 pub mod Plan

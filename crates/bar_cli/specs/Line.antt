@@ -1,4 +1,4 @@
--- Which words are a line, and what they ask for.
+-- Which arguments are a valid command line, and what they request.
 use Rattle.std.specs.Prelude.{◌==◌, ◌||◌, ◌++◌, ◌-◌, ◌^◌, ℕ, Bool, true, false, List, [], ◌∷◌, Option, None, Some, if◌then◌else◌, codes, is_err}
 use Rattle.std.specs.Option.{option_and_then}
 use Rattle.std.specs.Str.{bytes_eq}
@@ -43,9 +43,9 @@ infixl 10 ◌>>=◌
 abbrev ◌>>=◌ : {A B : Type 0} → Option A → (A → Option B) → Option B
 o >>= f = option_and_then f o
 
--- ---- the options of each command, each once and in any order, and what their values ask for
+-- ---- the options of each command, each exactly once and in any order, and the meaning of their values
 
--- the milliseconds of a Unix time
+-- a Unix time in milliseconds
 abbrev pub time_of : List ℕ → Option ℕ
 time_of word = number_in 0 (2 ^ 64 - 1) word
 
@@ -78,7 +78,7 @@ replay_files _ = None
 abbrev pub keygen_options : List (List ℕ)
 keygen_options = codes "party" ∷ codes "id" ∷ codes "rounds" ∷ codes "lms" ∷ codes "ots" ∷ codes "secret" ∷ codes "key" ∷ []
 
--- the numbers are in their ranges, with so many rounds at the most, and an id has sixteen hex digits
+-- the numbers are in their ranges, with at most `most` rounds, and the id has sixteen hex digits
 abbrev pub asked_by : ℕ → Option (Option Height × Params) → List ℕ → List ℕ → List ℕ → List ℕ → List ℕ → Option Line
 asked_by most types party_word id_word rounds_word secret key = do
   party ← number_in 0 most_peers party_word
@@ -135,7 +135,7 @@ verify_files _ = None
 abbrev pub session_options : List (List ℕ)
 session_options = codes "session" ∷ codes "keys" ∷ codes "stream" ∷ codes "begin" ∷ codes "results" ∷ codes "program" ∷ []
 
--- the time is handed on as its word
+-- the time is passed on as text
 abbrev pub session_values : List (List ℕ) → Option Line
 session_values (session ∷ keys ∷ stream ∷ begin ∷ results ∷ program ∷ []) = do
   begin_ms ← time_of begin
@@ -151,7 +151,7 @@ simulate_values (seed_word ∷ []) = do
   Some (simulate seed)
 simulate_values _ = None
 
--- ---- a command by its name, with its options and what their values ask for
+-- ---- a command by its name, with its options and the meaning of their values
 
 abbrev pub command_named : List ℕ → Option CommandName
 command_named word =
@@ -194,7 +194,7 @@ asked_with commands.Verify values = verify_files values
 asked_with commands.Session values = session_values values
 asked_with commands.Simulate values = simulate_values values
 
--- the line that the words are, if they are one; the first word names the command
+-- the command line that the arguments represent, if they are valid; the first argument names the command
 abbrev pub line_of : List (List ℕ) → Option Line
 line_of [] = None
 line_of (word ∷ words) = do
@@ -205,7 +205,7 @@ line_of (word ∷ words) = do
 abbrev pub usage : List ℕ
 usage = codes "bar: usage" ++ 10 ∷ []
 
--- what the words ask for, by what the link gives and by what the files hold
+-- the plan of a command line, depending on what the link gives and on what the files hold
 abbrev pub plan_of : Option Line → List Arrival → Content → Plan
 plan_of None given = ending 2 usage
 plan_of (Some (peer names)) given = peer_plan names given
@@ -219,7 +219,7 @@ plan_of (Some (verify names)) given = verify_plan names
 plan_of (Some (session_run names)) given = session_plan names
 plan_of (Some (simulate seed)) given = simulate_plan seed
 
--- the commands whose plan is all that they do; a session goes on by what its children do
+-- the commands whose plan is all that they do; `session` also depends on what its children do
 abbrev pub has_plan : Option Line → Bool
 has_plan None = true
 has_plan (Some (peer names)) = true
@@ -233,7 +233,7 @@ has_plan (Some (verify names)) = true
 has_plan (Some (session_run names)) = false
 has_plan (Some (simulate seed)) = true
 
--- the statuses that come at words
+-- the statuses that a command line may return
 abbrev pub is_status_of : Option Line → ℕ → Bool
 is_status_of None status = status == 2 || status == 70
 is_status_of (Some (peer names)) status =
@@ -297,7 +297,7 @@ starts_children (Some (verify names)) = false
 starts_children (Some (session_run names)) = true
 starts_children (Some (simulate seed)) = false
 
--- the lines whose plan is the same whatever the files hold, and leaves them alone
+-- the command lines whose plan doesn't depend on the files and doesn't touch them
 abbrev pub reads_nothing : Option Line → Bool
 reads_nothing None = true
 reads_nothing (Some (peer names)) = false

@@ -1,7 +1,7 @@
 -- The statuses at which something may have been printed on standard output.
 use Rattle.std.specs.Prelude.{◌==◌, ◌||◌, ℕ, Bool}
 
--- `peer` and `broadcaster` print their summaries at their ends
+-- `peer` and `broadcaster` print their summaries at the end
 abbrev pub live_may_print : ℕ → Bool
 live_may_print status = status == 0 || status == 7 || status == 70
 
@@ -9,7 +9,7 @@ live_may_print status = status == 0 || status == 7 || status == 70
 abbrev pub replay_may_print : ℕ → Bool
 replay_may_print status = status == 0 || status == 3 || status == 7 || status == 70
 
--- `keygen` prints at its end
+-- `keygen` prints at the end
 abbrev pub keygen_may_print : ℕ → Bool
 keygen_may_print status = status == 0 || status == 7 || status == 70
 
@@ -21,10 +21,10 @@ session_may_print status = status == 0 || status == 7 || status == 9 || status =
 abbrev pub simulate_may_print : ℕ → Bool
 simulate_may_print status = status == 0 || status == 7 || status == 70
 
--- `audit` prints its lines at its end
+-- `audit` prints its lines at the end
 abbrev pub audit_may_print : ℕ → Bool
 audit_may_print status = status == 0 || status == 1 || status == 7 || status == 70
 
--- `judge` and `verify` print their verdict, and `pack` how long its file is or why there is none
+-- `judge` and `verify` print their verdict, and `pack` the length of its file or why there is none
 abbrev pub judge_may_print : ℕ → Bool
 judge_may_print status = status == 0 || status == 1 || status == 7 || status == 70

@@ -1,6 +1,6 @@
--- What `session` does.
+-- What the command `session` does.
 use Rattle.std.specs.Prelude.{◌≡◌, ◌⊎◌, ◌==◌, ◌||◌, ℕ, Bool, false, List, [], ◌∷◌, ◌++◌, IsTrue, codes, if◌then◌else◌}
-use Rattle.bar_outside.specs.Children.{Children}
+use Rattle.bar_outside.specs.Code.Children.{Children}
 use Rattle.bar_outside.specs.Disk.{Content}
 use Rattle.bar_outside.specs.Plan.{Outside, Plan, file_failed, no_memory, output_failed, with_out}
 use Rattle.bar_outside.specs.Ends.{EndsWith, SameFiles}
@@ -10,7 +10,7 @@ use Rattle.bar_child_processes.specs.Sessions.{SessionRan}
 use Rattle.bar_session.specs.SessionData.{SessionData}
 use Rattle.bar_session_files.specs.Accepting.{HasSession, session_stage}
 
--- The session is read, and accepted or refused. What comes behind goes by what the children do.
+-- The session is read, and accepted or refused. What follows depends on what the children do.
 abbrev pub session_plan : SessionNames → Content → Plan
 session_plan names = plan_by (session_stage names.session (λ s. finishes [] 0 []))
 
@@ -30,11 +30,11 @@ line_of_end status =
 abbrev pub session_line : SessionNames → Content → ℕ → List ℕ
 session_line names content status = if status == 4 then (session_plan names content).line else line_of_end status
 
--- the statuses whose line is the same whatever the files hold
+-- the statuses whose line doesn't depend on what the files hold
 abbrev pub is_plain_end : ℕ → Bool
 is_plain_end status = status == 0 || status == 3 || status == 7 || status == 9
 
--- The session wasn't read, is refused, or memory was wanting: no child was started, and nothing was printed.
+-- The session wasn't read, was refused, or memory ran out: no child was started, and nothing was printed.
 pub record SessionStopped (names : SessionNames) (old new : Outside) (kids kids_new : Children) (status : ℕ) (line : List ℕ) : Type 0 where
   pub ends : EndsWith (session_plan names) old new status line
   pub early : (status ≡ 3) ⊎ ((status ≡ 4) ⊎ (status ≡ 70))
@@ -55,7 +55,7 @@ pub record SessionEnds (names : SessionNames) (old new : Outside) (kids kids_new
   pub files : IsTrue new.files.told → SameFiles old new
   pub ended : SessionStopped names old new kids kids_new status line ⊎ SessionGoes names old new kids kids_new status line
 
--- So it ended, but that want of memory for the line of its status makes this 70.
+-- It ended like this, except that running out of memory for the line of its status makes the status 70.
 pub record SessionRuns (names : SessionNames) (old new : Outside) (kids kids_new : Children) (result : ℕ) : Type 0 where
   pub status : ℕ
   pub line : List ℕ

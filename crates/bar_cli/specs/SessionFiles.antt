@@ -6,7 +6,7 @@ use Rattle.bar_child_processes.specs.Words.{named}
 use Rattle.bar_party_commands.specs.PeerPlan.{PeerNames}
 use Rattle.bar_party_commands.specs.PeerStands.{HasOwnNames}
 
--- the names in the words of a peer, which begins at this time
+-- the file names in the arguments of a peer that begins at this time
 abbrev pub names_of_peer : SessionNames → ℕ → ℕ → PeerNames
 names_of_peer names begin_ms peer =
     record {
@@ -18,12 +18,12 @@ names_of_peer names begin_ms peer =
       found = named names.results peer;
     }
 
--- neither begins with the other
+-- neither is a prefix of the other
 pub record AreUnlike (one other : List ℕ) : Type 0 where
   pub first : IsFront one other → ⊥
   pub second : IsFront other one → ⊥
 
--- The names of each peer's files differ where those of keys and those of results begin unlike.
+-- If neither the prefix of key names nor that of result names is a prefix of the other, the names of each peer's files differ.
 abbrev pub PeersHaveOwnNames : Type 0
 PeersHaveOwnNames =
     (names : SessionNames) (begin_ms peer : ℕ) → AreUnlike names.keys names.results → HasOwnNames (names_of_peer names begin_ms peer)

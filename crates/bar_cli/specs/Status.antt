@@ -1,7 +1,7 @@
 -- The exit statuses, and the line of each.
 use Rattle.std.specs.Prelude.{ℕ, ◌==◌, ◌||◌, Bool, true, false, List, [], Result, Ok, Err}
 use Rattle.bar_outside.specs.Plan as plan
-use Rattle.bar_outside.specs.Faults.{code_of_fault, line_of_fault}
+use Rattle.bar_outside.specs.Code.Faults.{code_of_fault, line_of_fault}
 use Rattle.bar_outside.specs.declared.fault.Fault.{Fault}
 use Rattle.bar_cli.specs.declared.status.Status.{Status}
 use Rattle.bar_cli.specs.declared.status.Status.TheVariants.{Done, NoFault, Unbalanced, Usage, FileFailed, LinkFailed, SessionRefused, KeyRefused, OutputFailed, ChildFailed, RecordingRefused, PartiesRefused, StreamRefused, SecretRefused, TableRefused, EvidenceRefused, NoMemory, ProofRefused}
@@ -29,7 +29,7 @@ code_of (ProofRefused fault) = 8
 code_of ChildFailed = 9
 code_of NoMemory = 70
 
--- the line that is printed at a status
+-- the line that is printed for a status
 abbrev pub said_at : Status → List ℕ
 said_at Done = []
 said_at NoFault = []
@@ -59,7 +59,7 @@ abbrev pub said_by_run : Result Status Fault → List ℕ
 said_by_run (Ok status) = said_at status
 said_by_run (Err fault) = line_of_fault fault
 
--- how a replay ends where no fault stops it
+-- how a replay ends if no fault stops it
 abbrev pub is_replay_end : Status → Bool
 is_replay_end Done = true
 is_replay_end (SessionRefused fault) = true
@@ -80,7 +80,7 @@ is_replay_end (ProofRefused fault) = false
 is_replay_end ChildFailed = false
 is_replay_end NoMemory = false
 
--- how `keygen` ends where no fault stops it
+-- how `keygen` ends if no fault stops it
 abbrev pub is_keygen_end : Status → Bool
 is_keygen_end Done = true
 is_keygen_end (SessionRefused fault) = true
@@ -101,7 +101,7 @@ is_keygen_end OutputFailed = false
 is_keygen_end ChildFailed = false
 is_keygen_end NoMemory = false
 
--- how `audit` ends where no fault stops it
+-- how `audit` ends if no fault stops it
 abbrev pub is_audit_end : Status → Bool
 is_audit_end Done = true
 is_audit_end Unbalanced = true
@@ -122,7 +122,7 @@ is_audit_end OutputFailed = false
 is_audit_end ChildFailed = false
 is_audit_end NoMemory = false
 
--- how `judge` ends where no fault stops it
+-- how `judge` ends if no fault stops it
 abbrev pub is_judge_end : Status → Bool
 is_judge_end Done = true
 is_judge_end NoFault = true
@@ -143,6 +143,6 @@ is_judge_end OutputFailed = false
 is_judge_end ChildFailed = false
 is_judge_end NoMemory = false
 
--- the statuses of `pack` and of `verify` where no fault stops them
+-- the statuses of `pack` and of `verify` if no fault stops them
 abbrev pub is_proof_end : ℕ → Bool
 is_proof_end status = status == 0 || status == 1 || status == 4 || status == 8

@@ -11,7 +11,7 @@ ghost use Rattle.bar_cli.specs.Audit.Plan.{audit_plan, is_range, parties_stages,
 ghost use Rattle.bar_cli.specs.Audit.Text.{status_of_balance};
 ghost use Rattle.bar_cli.specs.Printing.{audit_may_print};
 ghost use Rattle.bar_cli.specs.Status.{code_of, code_of_run, is_audit_end, said_at, said_by_run};
-ghost use Rattle.bar_cli.specs.Views.{audit_view};
+ghost use Rattle.bar_cli.specs.Code.Views.{audit_view};
 
 pub mod laws;
 pub mod names;
@@ -30,7 +30,7 @@ use bar_session_files::read_session;
 use bar_window::Exchange;
 use std::alloc::Global;
 
-/// Reads the session and goes on, if it is accepted.
+/// Reads the session and continues if it is accepted.
 pub fn audit<F: Files, K: Sink>(
     alloc: Global,
     names: &AuditNames<'_>,
@@ -51,14 +51,14 @@ pub fn audit<F: Files, K: Sink>(
     }
 }
 
-/// Whether the parties are peers of a session of so many, the first not above the last.
+/// Whether the parties are peers of a session with this many peers, and the first doesn't exceed the last.
 fn is_range(names: &AuditNames<'_>, peers: u16) -> bool
     ensures { result ≡ is_range (audit_view names.now) peers }
 {
     1 <= names.first && names.first <= names.last && names.last <= peers
 }
 
-/// Reads the recordings of the parties and goes on, if the parties and all recordings are accepted.
+/// Reads the recordings of the parties and continues if the parties and all recordings are accepted.
 fn audit_session<F: Files, K: Sink>(
     alloc: Global,
     session: &Session,
@@ -81,7 +81,7 @@ fn audit_session<F: Files, K: Sink>(
     }
 }
 
-/// Prints what is told of the recorded exchanges.
+/// Prints the report on the recorded exchanges.
 fn tell<K: Sink>(alloc: Global, audit: &Audit, out: &mut K) -> Result<Status, Fault>
     ensures ends { (w : Outside) (s : RulesSession) (recordings : List Recording) → Audits s recordings audit.now →
         EndsWith (telling_plan s recordings) (with_out w (K.stream out.old)) (with_out w (K.stream out.new))
@@ -95,7 +95,7 @@ fn tell<K: Sink>(alloc: Global, audit: &Audit, out: &mut K) -> Result<Status, Fa
     Ok(status_of(audit.unbalanced()))
 }
 
-/// How the program ends with a balance that was printed.
+/// The status of the program after it printed a balance.
 fn status_of(unbalanced: Option<Exchange>) -> Status
     ensures code { code_of result ≡ status_of_balance unbalanced }
     ensures line { said_at result ≡ [] }

@@ -1,4 +1,4 @@
-//! The headline of every peer, from the laws of its rules.
+//! The headline for every peer, derived from the laws of its rules.
 ghost use Rattle.bar_laws.specs.Always.{OfEachPeer};
 ghost use Rattle.bar_cli.specs.Headline.{KeepsTheRules};
 
@@ -11,7 +11,7 @@ use bar_laws::framing::no_framing;
 use bar_laws::leaves::leaf_discipline;
 use bar_laws::obedience::signed_by_rule;
 
-/// Each peer keeps the rules, whatever inputs come.
+/// Every peer keeps the rules, whatever inputs it takes.
 pub(crate) fn peers_keep_the_rules()
     ensures { OfEachPeer KeepsTheRules }
 {

@@ -5,12 +5,12 @@ ghost use Rattle.bar_outside.specs.Plan.{Outside, with_files, with_out};
 ghost use Rattle.bar_outside.specs.Ends.{EndsWith};
 ghost use Rattle.bar_outside.specs.Stages.{plan_by};
 ghost use Rattle.bar_terms.specs.Table.{Lists, digests_of};
-ghost use Rattle.bar_judge.specs.Verdicts.{plain_verdict};
+ghost use Rattle.bar_judge.specs.Code.Verdicts.{plain_verdict};
 ghost use Rattle.bar_cli.specs.Judge.Plan.{evidence_stages, judge_plan, saying_plan, table_stages};
 ghost use Rattle.bar_cli.specs.Judge.Judging.{status_of_verdict, verdict_line};
 ghost use Rattle.bar_cli.specs.Printing.{judge_may_print};
 ghost use Rattle.bar_cli.specs.Status.{code_of, code_of_run, said_at, said_by_run, is_judge_end};
-ghost use Rattle.bar_cli.specs.Views.{judge_view};
+ghost use Rattle.bar_cli.specs.Code.Views.{judge_view};
 
 mod judging;
 pub mod laws;
@@ -27,7 +27,7 @@ use bar_session_files::read_session;
 use bar_terms::Table;
 use std::alloc::{AllocError, Global};
 
-/// Reads the session and goes on, if it is accepted.
+/// Reads the session and continues if it is accepted.
 pub fn judge<F: Files, K: Sink>(
     alloc: Global,
     names: &JudgeNames<'_>,
@@ -48,7 +48,7 @@ pub fn judge<F: Files, K: Sink>(
     }
 }
 
-// Reads the table and goes on, if it is accepted.
+// Reads the table and continues if it is accepted.
 fn judge_session<F: Files, K: Sink>(
     alloc: Global,
     session: &Session,
@@ -70,7 +70,7 @@ fn judge_session<F: Files, K: Sink>(
     }
 }
 
-// Reads the evidence and goes on, if it is accepted.
+// Reads the evidence and continues if it is accepted.
 fn judge_table<F: Files, K: Sink>(
     alloc: Global,
     session: &Session,
@@ -116,7 +116,7 @@ fn line_of(alloc: Global, verdict: &Verdict) -> Result<String, AllocError>
     format!(in alloc; "{verdict}\n")
 }
 
-// How the program ends with a verdict that was printed.
+// The status of the program after it printed a verdict.
 fn status_of(verdict: &Verdict) -> Status
     ensures code { code_of result ≡ status_of_verdict (plain_verdict verdict.now) }
     ensures line { said_at result ≡ [] }

@@ -9,7 +9,7 @@ ghost use Rattle.bar_roster.specs.KeyText.{key_text_of};
 ghost use Rattle.bar_cli.specs.Keygen.Plan.{HasFewLeaves, anchor_for, anchor_line, key_line, key_made, keygen_plan, leaves_for, lines_of, public_of, secret_of, secret_stages};
 ghost use Rattle.bar_cli.specs.Printing.{keygen_may_print};
 ghost use Rattle.bar_cli.specs.Status.{code_of_run, said_by_run, is_keygen_end};
-ghost use Rattle.bar_cli.specs.Views.{keygen_view};
+ghost use Rattle.bar_cli.specs.Code.Views.{keygen_view};
 
 pub mod key_types;
 pub mod laws;
@@ -26,7 +26,7 @@ use bar_roster::{KeyData, SessionFault, check_leaves, leaves_of};
 use bar_seeds::SeedChain;
 use std::alloc::{AllocError, Global};
 
-/// Refuses too few leaves, and goes on.
+/// Refuses too few leaves, and otherwise continues.
 pub fn keygen<F: Files, K: Sink>(
     alloc: Global,
     asked: &KeygenWords<'_>,
@@ -47,7 +47,7 @@ pub fn keygen<F: Files, K: Sink>(
     }
 }
 
-// Whether there are enough leaves, or else the fault with both numbers.
+// Accepts the number of leaves, or returns a fault with both numbers if there are too few.
 fn enough_leaves(asked: &KeygenWords<'_>) -> Result<(), SessionFault>
     ensures value { result ≡ leaves_for (keygen_view asked.now) }
 {
@@ -55,7 +55,7 @@ fn enough_leaves(asked: &KeygenWords<'_>) -> Result<(), SessionFault>
     check_leaves(asked.rounds, leaves_of(types.top, types.params))
 }
 
-// Reads the secret and goes on, if it has its length.
+// Reads the secret and continues if it has the right length.
 fn keygen_by_secret<F: Files, K: Sink>(
     alloc: Global,
     asked: &KeygenWords<'_>,
@@ -78,7 +78,7 @@ fn keygen_by_secret<F: Files, K: Sink>(
     Ok(Status::Done)
 }
 
-// The secret that bytes are, where there are 32 of them.
+// The secret in a file's bytes, if there are 32 of them.
 fn secret_of(bytes: &[u8]) -> Option<[u8; 32]>
     ensures some { IfSome result (λ secret. secret_of bytes.now ≡ Ok secret) }
     ensures none { result ≡ None → secret_of bytes.now ≡ Err (length bytes.now) }
@@ -86,14 +86,14 @@ fn secret_of(bytes: &[u8]) -> Option<[u8; 32]>
     <[u8; 32]>::try_from(bytes).ok()
 }
 
-// The LMS type of the upper tree, where there is one.
+// The LMS type of the upper tree, if there is one.
 fn top_number(asked: &KeygenWords<'_>) -> Option<u32>
     ensures { result ≡ option_map lms_type asked.now.types.top }
 {
     Some(asked.types.top?.number())
 }
 
-// What the key file says of a secret, fresh.
+// The data of the fresh key file for a secret.
 fn key_made(asked: &KeygenWords<'_>, secret: &[u8; 32]) -> KeyData
     ensures { result ≡ key_made (keygen_view asked.now) secret.now }
 {
@@ -110,7 +110,7 @@ fn key_made(asked: &KeygenWords<'_>, secret: &[u8; 32]) -> KeyData
     }
 }
 
-// What is written and printed of the key of a secret: the text of the key file, and what a session's text says of the party.
+// What is written and printed for the key of a secret: the text of the key file, and the lines on the party in a session's text.
 fn made_key(alloc: Global, asked: &KeygenWords<'_>, secret: &[u8; 32]) -> Result<Made, AllocError>
     ensures text { IfOk result (λ made. made.bytes.items ≡ key_text_of (key_made (keygen_view asked.now) secret.now)) }
     ensures lines { IfOk result (λ made. string_bytes made.lines ≡ lines_of (keygen_view asked.now) secret.now) }
@@ -120,7 +120,7 @@ fn made_key(alloc: Global, asked: &KeygenWords<'_>, secret: &[u8; 32]) -> Result
     Ok(Made { bytes, lines })
 }
 
-// The line of the public key, and for a peer that of the anchor.
+// The line of the public key and, for a peer, that of the anchor.
 fn lines_of(alloc: Global, asked: &KeygenWords<'_>, secret: &[u8; 32]) -> Result<String, AllocError>
     ensures { IfOk result (λ lines. string_bytes lines ≡ lines_of (keygen_view asked.now) secret.now) }
 {
@@ -145,7 +145,7 @@ fn public_line(
     }
 }
 
-// The public key of a secret, of one level (RFC 8554, 5.3).
+// The public key of a secret for one level (RFC 8554, 5.3).
 fn single_key(
     alloc: Global,
     asked: &KeygenWords<'_>,
@@ -158,7 +158,7 @@ fn single_key(
     Ok(key.public())
 }
 
-// The public key of a secret, of two levels (RFC 8554, 6.1).
+// The public key of a secret for two levels (RFC 8554, 6.1).
 fn double_key(
     alloc: Global,
     asked: &KeygenWords<'_>,

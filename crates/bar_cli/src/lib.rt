@@ -1,4 +1,4 @@
-//! The commands of the program, over an outside that is handed in.
+//! The commands of the program, over an outside that the caller provides.
 #![tactic(auto)]
 
 mod audit;

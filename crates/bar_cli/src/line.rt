@@ -1,8 +1,8 @@
-//! The words of the command line.
+//! Parsing of the command line.
 ghost use Rattle.std.specs.Prelude.{◌≡◌, Some, None, Err, IfOk, map, string_bytes};
 ghost use Rattle.bar_arguments.specs.declared.options.WordsFault.TheVariants.{Usage};
 ghost use Rattle.bar_cli.specs.Line.{line_of};
-ghost use Rattle.bar_cli.specs.Views.{command_view};
+ghost use Rattle.bar_cli.specs.Code.Views.{command_view};
 
 mod audit;
 mod broadcaster;
@@ -28,7 +28,7 @@ use bar_party_commands::{CasterNames, PeerNames};
 use name::CommandName;
 use std::alloc::Global;
 
-/// A command, with what its words say.
+/// A command with its arguments.
 #[derive(Clone, Copy, Debug)]
 pub enum Command<'a> {
     Peer(PeerNames<'a>),
@@ -45,11 +45,11 @@ pub enum Command<'a> {
     Simulate(u64),
 }
 
-/// The command that the words ask for, if they are a line. The first word names it.
+/// The command that the arguments request, if they are a valid command line. The first argument names it.
 ///
 /// # Errors
 ///
-/// `Usage` where the words aren't a line, and `NoMemory`.
+/// `Usage` if the arguments aren't a valid command line, and `NoMemory`.
 pub fn command_of(alloc: Global, words: &[String]) -> Result<Command<'_>, WordsFault>
     ensures line { IfOk result (λ command. line_of (map string_bytes words.now) ≡ Some (command_view command)) }
     ensures usage { result ≡ Err Usage → line_of (map string_bytes words.now) ≡ None }

@@ -1,20 +1,20 @@
-//! Making a file and then printing of it.
+//! Creating a file and then printing lines about it.
 ghost use Rattle.std.specs.Prelude.{◌≡◌, ◌∷◌, Err, [], string_bytes};
 ghost use Rattle.bar_outside.specs.Disk.{Content};
 ghost use Rattle.bar_outside.specs.Plan.{Outside, with_files, with_out};
 ghost use Rattle.bar_outside.specs.Plan.Action.{create, append, show};
-ghost use Rattle.bar_outside.specs.Follows.{Follows};
+ghost use Rattle.bar_outside.specs.Code.Follows.{Follows};
 
 use bar_outside::{Fault, Files, Sink, append_file, create_file, show_bytes};
 
-/// What is written into a new file, and what is printed then.
+/// The bytes that are written into a new file, and the lines that are printed afterwards.
 #[derive(Drop)]
 pub(crate) struct Made {
     pub bytes: Vec<u8>,
     pub lines: String,
 }
 
-/// Creates and writes the file, and prints the lines.
+/// Creates and writes the file, and then prints the lines.
 pub(crate) fn make_file<F: Files, K: Sink>(
     made: &Made,
     path: &str,

@@ -8,7 +8,7 @@ ghost use Rattle.bar_rules.specs.Judge.Verdict.{NotShown};
 ghost use Rattle.bar_cli.specs.Pack.{inputs_stages, pack_plan, packed_line, reading_stages};
 ghost use Rattle.bar_cli.specs.Printing.{judge_may_print};
 ghost use Rattle.bar_cli.specs.Status.{code_of, code_of_run, is_proof_end, said_by_run};
-ghost use Rattle.bar_cli.specs.Views.{packing_view};
+ghost use Rattle.bar_cli.specs.Code.Views.{packing_view};
 
 pub mod laws;
 pub mod names;
@@ -26,7 +26,7 @@ use bar_roster::{Session, SessionFault};
 use bar_session_files::read_session;
 use std::alloc::{AllocError, Global};
 
-/// Reads the session and goes on, if it is accepted.
+/// Reads the session and continues if it is accepted.
 pub fn pack<F: Files, K: Sink>(
     alloc: Global,
     names: &PackNames<'_>,
@@ -66,7 +66,7 @@ fn pack_session<F: Files, K: Sink>(
     pack_inputs(alloc, session, &table, &evidence, names, files, out)
 }
 
-// Packs the evidence of a file with what it needs of a table's file, if both are accepted and a fault is shown.
+// Packs the evidence of a file with the part of the table file that it needs, if both are accepted and a fault is shown.
 fn pack_inputs<F: Files, K: Sink>(
     alloc: Global,
     session: &Session,

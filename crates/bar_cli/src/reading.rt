@@ -1,6 +1,6 @@
 //! Reading a recording.
 ghost use Rattle.std.specs.Prelude.{◌≡◌, Ok, Err, IfOk, IfErr};
-ghost use Rattle.bar_record.specs.Inputs.{inputs_left};
+ghost use Rattle.bar_record.specs.Code.Inputs.{inputs_left};
 ghost use Rattle.bar_record.specs.Pacing.{paced};
 ghost use Rattle.bar_session.specs.Time.{last_tick};
 ghost use Rattle.bar_cli.specs.Audit.Plan.{inputs_listed};
@@ -9,7 +9,7 @@ ghost use Rattle.bar_cli.specs.Replay.Recordings.{recording_of};
 use bar_record::{Items, RecordFault, read};
 use bar_roster::Session;
 
-/// The inputs of a party's recording that bytes spell under a session, as they stand in it.
+/// The inputs of a party's recording that the bytes encode under a session, as they are listed there.
 #[tactic(auto, unfolding(crate::specs::Audit::Plan::inputs_listed, crate::specs::Replay::Recordings::recording_of))]
 pub fn read_recording<'a>(
     session: &Session,

@@ -1,4 +1,4 @@
-//! The top call.
+//! The entry point of the program's commands.
 ghost use Rattle.std.specs.Prelude.{◌≡◌, ◌⊎◌, ◌↔◌, None, Some, map, string_bytes};
 ghost use Rattle.bar_outside.specs.Disk.{Content};
 ghost use Rattle.bar_outside.specs.Plan.{outside};
@@ -7,7 +7,7 @@ ghost use Rattle.bar_cli.specs.Line.{line_of};
 ghost use Rattle.bar_cli.specs.Line as line;
 ghost use Rattle.bar_cli.specs.Ran.{ByTheRules, CommandRan, WasDone, WasSaid};
 ghost use Rattle.bar_cli.specs.Status.{code_of, said_at};
-ghost use Rattle.bar_cli.specs.Views.{command_view};
+ghost use Rattle.bar_cli.specs.Code.Views.{command_view};
 
 use crate::audit::audit;
 use crate::audit::laws::{an_audit_is_told, an_audit_stays};
@@ -35,7 +35,7 @@ use bar_roster::laws::{accepted_secrets_are_held, accepted_sessions_are_in_range
 use bar_world::laws::honest_peers_stay;
 use std::alloc::Global;
 
-/// Does what the words say, the first of which names the command, and answers the exit status.
+/// Runs the command given by the arguments, the first of which names it, and returns the exit status.
 pub fn bar_run<F: Files, L: Link, K: Sink, S: Spawner>(
     alloc: Global,
     words: &[String],
@@ -45,17 +45,17 @@ pub fn bar_run<F: Files, L: Link, K: Sink, S: Spawner>(
     err: &mut K,
     spawn: &mut S,
 ) -> u8
-    // what was done: which status comes when, and what was read, written, printed, given over the link and started
+    // what was done: the meaning of each status, and what was read, written, printed, sent over the link and started
     ensures done { (was : Content) → WasDone (line_of (map string_bytes words.now))
         (outside (F.disk files.old was) (K.stream out.old) (L.wire link.old))
         (outside (F.disk files.new was) (K.stream out.new) (L.wire link.new)) (S.children spawn.old) (S.children spawn.new) result }
 
-    // what stands by the rules over these inputs
+    // what holds by the rules over these inputs
     ensures ruled { (was : Content) → ByTheRules (line_of (map string_bytes words.now))
         (outside (F.disk files.old was) (K.stream out.old) (L.wire link.old))
         (outside (F.disk files.new was) (K.stream out.new) (L.wire link.new)) result }
 
-    // what standard error has of it
+    // what was printed on standard error
     ensures said { (was : Content) → WasSaid (line_of (map string_bytes words.now)) (F.disk files.old was) (F.disk files.new was)
         (K.stream err.old) (K.stream err.new) result }
 {
@@ -83,7 +83,7 @@ pub fn bar_run<F: Files, L: Link, K: Sink, S: Spawner>(
     report(alloc, &status, err)
 }
 
-/// Does what the words say, and tells how it ended.
+/// Runs the command given by the arguments, and returns how it ended.
 fn run_words<F: Files, L: Link, K: Sink, S: Spawner>(
     alloc: Global,
     words: &[String],
@@ -109,7 +109,7 @@ fn run_words<F: Files, L: Link, K: Sink, S: Spawner>(
     }
 }
 
-/// Does a command, and tells how it ended.
+/// Runs a command, and returns how it ended.
 fn run_command<F: Files, L: Link, K: Sink, S: Spawner>(
     alloc: Global,
     command: &Command<'_>,

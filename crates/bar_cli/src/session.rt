@@ -2,7 +2,7 @@
 ghost use Rattle.std.specs.Prelude.{◌≡◌, false, Some, IsTrue};
 ghost use Rattle.bar_outside.specs.Disk.{Content};
 ghost use Rattle.bar_outside.specs.Plan.{Outside, with_files, with_out};
-ghost use Rattle.bar_child_processes.specs.Views.{names_view};
+ghost use Rattle.bar_child_processes.specs.Code.Views.{names_view};
 ghost use Rattle.bar_cli.specs.Line.{is_status_of, session_run};
 ghost use Rattle.bar_cli.specs.Printing.{session_may_print};
 ghost use Rattle.bar_cli.specs.Session.{SessionEnds};
@@ -17,7 +17,7 @@ use bar_roster::SessionFault;
 use bar_session_files::read_session;
 use std::alloc::Global;
 
-/// Reads the session, and runs its children, if it is accepted.
+/// Reads the session, and runs its children if it is accepted.
 pub fn session<F: Files, K: Sink, S: Spawner>(
     alloc: Global,
     names: &SessionNames<'_>,

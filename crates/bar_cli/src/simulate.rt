@@ -46,7 +46,7 @@ fn counts(alloc: Global, end: &SimEnd) -> Result<String, AllocError>
     format!(in alloc; "delivered {delivered} lost {lost} repeated {repeated}\n")
 }
 
-// Parties behind a text, or that there are none.
+// Appends a list of parties to a text, or ` none` if it is empty.
 fn push_parties(alloc: Global, text: &mut String, parties: &[u16]) -> Result<(), AllocError>
     ensures { OnOk result (string_bytes text.new ≡ string_bytes text.old ++ parties_text parties.now) }
 {
@@ -60,7 +60,7 @@ fn push_parties(alloc: Global, text: &mut String, parties: &[u16]) -> Result<(),
     Ok(())
 }
 
-// What is printed of an end.
+// The text printed for an end.
 fn summary(alloc: Global, end: &SimEnd) -> Result<String, AllocError>
     requires { end.now.evicted.len ≤ 5 }
     ensures { IfOk result (λ text. string_bytes text ≡ text_of (end_view end.now)) }

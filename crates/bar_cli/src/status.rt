@@ -1,8 +1,8 @@
-//! How the program ends, and what it says of it.
+//! How the program ends, and what it then prints.
 ghost use Rattle.std.specs.Prelude.{◌≡◌, ◌⊎◌, ℕ, List, IfOk, Err, string_bytes};
 ghost use Rattle.bar_outside.specs.Ends.{Prints};
 ghost use Rattle.bar_cli.specs.Refusals.{session_refused, key_refused, record_fault_text, recording_refused, stream_refused, proof_fault_text, proof_refused, secret_refused, table_refused};
-ghost use Rattle.bar_party_commands.specs.Views.{code_of as live_code_of, said_at as live_said_at, code_of_run as live_code_of_run, said_by_run as live_said_by_run};
+ghost use Rattle.bar_party_commands.specs.Code.Views.{code_of as live_code_of, said_at as live_said_at, code_of_run as live_code_of_run, said_by_run as live_said_by_run};
 ghost use Rattle.bar_child_processes.specs.Outcomes.{code_of as outcome_code};
 ghost use Rattle.bar_cli.specs.Session.{line_of_end};
 ghost use Rattle.bar_cli.specs.Status.{code_of, said_at, code_of_run, said_by_run};
@@ -15,19 +15,19 @@ use bar_record::RecordFault;
 use bar_roster::{KeyFileFault, SessionFault};
 use std::alloc::{AllocError, Global};
 
-/// The exit status where memory is wanting.
+/// The exit status if memory runs out.
 const NO_MEMORY: u8 = 70;
 
 /// How the program ends.
 #[derive(Debug, PartialEq, Eq, Drop)]
 pub enum Status {
-    /// The command was done.
+    /// The command completed.
     Done,
-    /// `judge`, `pack` or `verify` finds no fault.
+    /// `judge`, `pack` or `verify` shows no fault.
     NoFault,
     /// An audited exchange isn't balanced.
     Unbalanced,
-    /// The words aren't a line.
+    /// The arguments aren't a valid command line.
     Usage,
     FileFailed,
     LinkFailed,
@@ -36,17 +36,17 @@ pub enum Status {
     KeyRefused(KeyFileFault),
     OutputFailed,
     RecordingRefused(RecordFault),
-    /// The parties of an audit aren't peers of the session, or the first is above the last.
+    /// The parties of an audit aren't peers of the session, or the first exceeds the last.
     PartiesRefused,
-    /// The stream has so many bytes, and the session has room for so many.
+    /// The stream has `have` bytes, and the session has room for only `room`.
     StreamRefused { have: u64, room: u64 },
-    /// The secret has so many bytes.
+    /// The length of a secret that doesn't have 32 bytes.
     SecretRefused(usize),
     /// The table has a bad entry at this place.
     TableRefused(u64),
     EvidenceRefused,
     ProofRefused(ProofFault),
-    /// A child wasn't started or waited for, or ended with another status than 0.
+    /// A child couldn't be started or waited for, or ended with a status other than 0.
     ChildFailed,
     NoMemory,
 }
@@ -121,7 +121,7 @@ impl From<Outcome> for Status {
     }
 }
 
-/// How a command over a link ended that a fault may have stopped.
+/// The status of a command over a link that a fault may have stopped.
 pub fn status_of_live(ended: Result<Ended, Fault>) -> Status
     ensures code { code_of result ≡ live_code_of_run ended }
     ensures line { said_at result ≡ live_said_by_run ended }
@@ -132,7 +132,7 @@ pub fn status_of_live(ended: Result<Ended, Fault>) -> Status
     }
 }
 
-/// How a command ended that a fault may have stopped.
+/// The status of a command that a fault may have stopped.
 pub fn status_of(ended: Result<Status, Fault>) -> Status
     ensures code { code_of result ≡ code_of_run ended }
     ensures line { said_at result ≡ said_by_run ended }
@@ -143,7 +143,7 @@ pub fn status_of(ended: Result<Status, Fault>) -> Status
     }
 }
 
-// Prints a line. A failed write changes nothing; want of memory makes the status 70.
+// Prints a line. A failed write doesn't change the status; running out of memory makes it 70.
 fn print_line<K: Sink>(line: &[u8], code: u8, err: &mut K) -> u8
     ensures code { (result ≡ code) ⊎ (result ≡ 70) }
     ensures said { Prints line.now result (K.stream err.old) (K.stream err.new) }
@@ -155,7 +155,7 @@ fn print_line<K: Sink>(line: &[u8], code: u8, err: &mut K) -> u8
     }
 }
 
-// Prints a line that was made, or nothing for want of memory.
+// Prints a line if it could be built; if memory ran out, it prints nothing.
 fn print_text<K: Sink>(text: Result<String, AllocError>, code: u8, err: &mut K) -> u8
     ensures code { (result ≡ code) ⊎ (result ≡ 70) }
     ensures said { (line : List ℕ) → IfOk text (λ text. string_bytes text ≡ line) →
@@ -179,7 +179,7 @@ fn key_refusal(alloc: Global, fault: KeyFileFault) -> Result<String, AllocError>
     format!(in alloc; "bar: key refused: {fault}\n")
 }
 
-/// The fault of a recording, with its place where it has one.
+/// The text of a recording's fault, with its place if it has one.
 fn record_fault_text(alloc: Global, fault: RecordFault) -> Result<String, AllocError>
     ensures { IfOk result (λ text. string_bytes text ≡ record_fault_text fault) }
 {
@@ -217,7 +217,7 @@ fn table_refusal(alloc: Global, at: u64) -> Result<String, AllocError>
     format!(in alloc; "bar: input refused: table at {at}\n")
 }
 
-/// The fault of a proof file, with its place where it has one.
+/// The text of a proof file's fault, with its place if it has one.
 fn proof_fault_text(alloc: Global, fault: ProofFault) -> Result<String, AllocError>
     ensures { IfOk result (λ text. string_bytes text ≡ proof_fault_text fault) }
 {
@@ -236,7 +236,7 @@ fn proof_refusal(alloc: Global, fault: ProofFault) -> Result<String, AllocError>
     format!(in alloc; "bar: input refused: proof {fault}\n")
 }
 
-/// Prints the line of the status. A failed write changes nothing; want of memory makes it 70.
+/// Prints the line of the status and returns the exit status. A failed write doesn't change it; running out of memory makes it 70.
 pub fn report<K: Sink>(alloc: Global, status: &Status, err: &mut K) -> u8
     ensures code { (result ≡ code_of status.now) ⊎ (result ≡ 70) }
     ensures said { Prints (said_at status.now) result (K.stream err.old) (K.stream err.new) }

@@ -1,4 +1,4 @@
-//! What verifies the signatures of a session.
+//! Verification of a session's signatures.
 ghost use Rattle.bar_rules.specs.Verifiers.{IsVerifierOf, NamesLeavesOf};
 ghost use Rattle.bar_hss.specs.Chosen.{accepted_with, leaf_with, length_with};
 

@@ -7,7 +7,7 @@ ghost use Rattle.bar_outside.specs.Stages.{plan_by};
 ghost use Rattle.bar_cli.specs.Verify.{proof_stages, verify_plan};
 ghost use Rattle.bar_cli.specs.Printing.{judge_may_print};
 ghost use Rattle.bar_cli.specs.Status.{code_of, code_of_run, is_proof_end, said_by_run};
-ghost use Rattle.bar_cli.specs.Views.{verify_view};
+ghost use Rattle.bar_cli.specs.Code.Views.{verify_view};
 
 mod judging;
 pub mod laws;
@@ -23,7 +23,7 @@ use bar_roster::{Session, SessionFault};
 use bar_session_files::read_session;
 use std::alloc::Global;
 
-/// Reads the session and goes on, if it is accepted.
+/// Reads the session and continues if it is accepted.
 pub fn verify<F: Files, K: Sink>(
     alloc: Global,
     names: &VerifyNames<'_>,
@@ -44,7 +44,7 @@ pub fn verify<F: Files, K: Sink>(
     }
 }
 
-// Reads the proof file and prints its verdict, if it is accepted.
+// Reads the proof file and prints its verdict if it is accepted.
 fn verify_session<F: Files, K: Sink>(
     alloc: Global,
     session: &Session,

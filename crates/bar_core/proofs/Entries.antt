@@ -1,4 +1,4 @@
--- Bytes that are put into a room, piece by piece.
+-- Putting bytes into a room, piece by piece.
 use Rattle.std.proofs.Common.{◌≡◌, ◌∙◌, ℕ, ◌+◌, ◌≤◌, ◌==◌, ◌++◌, Bool, true, false, List, [], ◌∷◌, length, Option, Some, None, refl, sym, ap, subst, arith, append_assoc, length-append}
 use Rattle.std.specs.Prelude.{option_map, IfSome, if◌then◌else◌}
 use Rattle.std.proofs.lemmas.List.{append-nil}
@@ -9,7 +9,7 @@ use Rattle.bar_wire.specs.Evidence.{evidence_bytes, other}
 use Rattle.bar_wire.specs.Grammar.{entry, AreDatagramsInRange}
 use Rattle.bar_wire.proofs.Lists.{entry_length}
 
--- one room has something else, and the others have what they had
+-- one room has this content, and the others are unchanged
 abbrev pub IsPut : (ℕ → Option (List ℕ)) → (ℕ → Option (List ℕ)) → ℕ → Option (List ℕ) → Type 0
 IsPut old new number now = (n : ℕ) → new n ≡ (if n == number then now else old n)
 
@@ -21,7 +21,7 @@ last_stays : (b : Bool) (first second before : Option (List ℕ)) → (if b then
 last_stays true first second before = refl
 last_stays false first second before = refl
 
--- of two that are put into one room the second stays
+-- if two contents are put into one room, the second one remains
 pub put_again : (old mid new : ℕ → Option (List ℕ)) (number : ℕ) (first second : Option (List ℕ)) → IsPut old mid number first → IsPut mid new number second
     → IsPut old new number second
 put_again old mid new number first second one two n =
@@ -37,7 +37,7 @@ added_twice : (o : Option (List ℕ)) (x y : List ℕ) → option_map (λ held. 
 added_twice None x y = refl
 added_twice (Some held) x y = ap Some (append_assoc held x y)
 
--- a length and a datagram are put behind what is there
+-- a length and a datagram are appended to what a room keeps
 pub entry_put : (old mid new : ℕ → Option (List ℕ)) (number : ℕ) (len datagram : List ℕ) → len ≡ u16_bytes (length datagram)
     → IsPut old mid number (option_map (λ held. held ++ len) (old number)) → IsPut mid new number (option_map (λ held. held ++ datagram) (mid number))
     → IsPut old new number (option_map (λ held. held ++ entry datagram) (old number))
@@ -47,7 +47,7 @@ entry_put old mid new number len datagram is one two n =
     ∙ ap (λ (o : Option (List ℕ)). if n == number then o else old n) (added_twice (old number) len datagram)
     ∙ ap (λ (x : List ℕ). if n == number then option_map (λ held. held ++ (x ++ datagram)) (old number) else old n) is
 
--- there is room behind what is kept
+-- there is room after what is kept
 pub leaves_room : (o : Option (List ℕ)) (held : List ℕ) (n size : ℕ) → o ≡ Some held → length held + n ≤ size
     → IfSome o (λ kept. length kept + n ≤ size)
 leaves_room o held n size is fits = subst (λ (o : Option (List ℕ)). IfSome o (λ kept. length kept + n ≤ size)) (sym is) fits
@@ -72,7 +72,7 @@ two_long one two =
 
 -- ---- one or two datagrams
 
--- what is put is the evidence, where it fits
+-- the evidence is put into the room, if it fits
 abbrev pub KeepsWhatFits : (ℕ → Option (List ℕ)) → (ℕ → Option (List ℕ)) → ℕ → ℕ → List (List ℕ) → Type 0
 KeepsWhatFits old new number size evidence =
     AreDatagramsInRange evidence → length (evidence_bytes evidence) ≤ size → IsPut old new number (Some (evidence_bytes evidence))

@@ -1,6 +1,6 @@
--- Orders of which none is given out.
+-- Orders none of which was given out.
 use Rattle.std.proofs.Common.{◌≡◌, [], ap, drop}
-use Rattle.bar_core.specs.Orders.{left_in}
+use Rattle.bar_core.specs.Code.Orders.{left_in}
 use Rattle.bar_core.specs.declared.orders.Orders.{Orders}
 
 pub all-left : {T : Type 0} (o : Orders T) → o.given ≡ 0 → left_in o ≡ o.list.items

@@ -1,4 +1,4 @@
--- What holds of the value that is made of another, if there is one.
+-- Properties of a mapped optional value.
 use Rattle.std.proofs.Common.{◌≡◌, Option, Some, None, refl}
 use Rattle.std.specs.Prelude.{IfSome, option_map}
 

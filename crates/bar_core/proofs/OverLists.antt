@@ -1,4 +1,4 @@
--- What two lists of inputs send and play, one behind the other.
+-- What the concatenation of two lists of inputs sends and plays.
 use Rattle.std.proofs.Common.{◌≡◌, List, [], ◌∷◌, ◌++◌, sym, ap, ◌∙◌, append-nil, append_assoc}
 use Rattle.bar_wire.specs.Inputs.{Input}
 use Rattle.bar_core.specs.Rules.{Rules}

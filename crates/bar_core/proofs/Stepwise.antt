@@ -1,4 +1,4 @@
--- What rules send and play over a list of inputs where they read a state that each input changes, and how that state counts ticks.
+-- What rules send and play over a list of inputs if they depend only on a state that each input updates, and how that state counts ticks.
 use Rattle.std.proofs.Common.{◌≡◌, ◌≤◌, ◌∙◌, ℕ, ◌+◌, min, List, [], ◌∷◌, ◌++◌, map, refl, sym, ap, arith}
 use Rattle.std.specs.List.{concat, flat_map}
 use Rattle.std.proofs.lemmas.List.{map-append}
@@ -8,17 +8,17 @@ use Rattle.bar_record.specs.Pacing.{ticks_in, ticks_of}
 use Rattle.bar_core.specs.Rules.{Rules, Send}
 use Rattle.bar_core.specs.Runs.{contents_over, sends_over}
 
--- what is shown of a list with a number before each element
+-- showing a list whose elements are numbered
 shown-numbered : {A B : Type 0} (shown : A → Send) (numbered : A → B) (given : B → Send)
     → ((a : A) → given (numbered a) ≡ shown a) → (xs : List A)
     → map shown xs ≡ map given (map numbered xs)
 shown-numbered shown numbered given same [] = refl
 shown-numbered shown numbered given same (x ∷ xs) = λ i. sym (same x) i ∷ shown-numbered shown numbered given same xs i
 
--- the state before inputs, and how one input changes it
+-- the state before an input, and how an input updates it
 module _ {S : Type 0} (r : Rules) (state : List Input → S) (next : S → Input → S)
     (goes : (before : List Input) (input : Input) → state (before ++ input ∷ []) ≡ next (state before) input) where
-  -- the runs put a number before each of the sends of an input
+  -- the runs put a number before each send of an input
   pub sends-stepwise : {A B : Type 0} (gives : S → Input → List A) (shown : A → Send) (numbered : ℕ → A → B) (given : B → Send)
       (runs : S → ℕ → List Input → List B)
       → ((before : List Input) (input : Input) → r.sends before input ≡ map shown (gives (state before) input))

@@ -1,4 +1,3 @@
 pub mod Rules
-pub mod Face
+pub mod Code
 pub mod Runs
-pub mod Orders

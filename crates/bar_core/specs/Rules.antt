@@ -1,4 +1,4 @@
--- The rules of a core, a peer or a broadcaster: what it does at each input, by the inputs that it took before.
+-- The rules of a core, a peer or a broadcaster: what it does at each input, depending on the inputs taken before.
 use Rattle.std.specs.Prelude.{ℕ, List, Option}
 use Rattle.bar_wire.specs.Inputs.{Input}
 
@@ -12,9 +12,9 @@ pub record Rules : Type 0 where
   -- the datagrams that an input sends, and the contents that it plays
   pub sends : List Input → Input → List Send
   pub contents : List Input → Input → List (List ℕ)
-  -- the manifest of a round and the evidence against a party that it has kept
+  -- the manifest of a round and the evidence against a party that it keeps after some inputs
   pub manifest : List Input → ℕ → Option (List ℕ)
   pub evidence : List Input → ℕ → Option (List ℕ)
-  -- how many rounds and peers its session has
+  -- the numbers of rounds and peers of its session
   pub rounds : ℕ
   pub peers : ℕ

@@ -1,4 +1,4 @@
--- What a list of inputs sends and plays by the rules of a core, behind the inputs that it took before.
+-- What a list of inputs sends and plays by the rules of a core, after the inputs that it took before.
 use Rattle.std.specs.Prelude.{ℕ, List, [], ◌∷◌, ◌++◌}
 use Rattle.bar_wire.specs.Inputs.{Input}
 use Rattle.bar_core.specs.Rules.{Rules, Send}

@@ -1,16 +1,16 @@
-//! Evidence in rooms, by party.
+//! Storing evidence in rooms, by party.
 ghost use Rattle.std.specs.Prelude.{◌≡◌, ◌+◌, ◌<◌, ◌≤◌, ◌==◌, ◌++◌, ◌∷◌, [], ℕ, Some, IfSome, length, option_map, if◌then◌else◌};
-ghost use Rattle.bar_bytes.specs.Rooms.{kept_in};
+ghost use Rattle.bar_bytes.specs.Code.Rooms.{kept_in};
 ghost use Rattle.bar_wire.specs.Evidence.{datagrams_of, evidence_bytes};
 ghost use Rattle.bar_wire.specs.Grammar.{entry, AreDatagramsInRange};
 
 use bar_bytes::Rooms;
 use bar_wire::EvidenceView;
 
-/// The greatest length that two bytes write.
+/// The greatest length that fits two bytes.
 const MOST: usize = 65_535;
 
-/// Adds a datagram behind its length to what is kept in a room.
+/// Appends a datagram, preceded by its length, to what a room keeps.
 fn add_entry(rooms: &mut Rooms, number: usize, datagram: &[u8])
     requires last { number < length rooms.old.rooms.items }
     requires short { length datagram.now ≤ 65535 }
@@ -25,7 +25,7 @@ fn add_entry(rooms: &mut Rooms, number: usize, datagram: &[u8])
     rooms.add(number, datagram);
 }
 
-/// Keeps evidence of one datagram in a room, where it fits.
+/// Keeps evidence of one datagram in a room, if it fits.
 fn keep_one(rooms: &mut Rooms, number: usize, one: &[u8])
     requires last { number < length rooms.old.rooms.items }
     ensures kept { length one.now ≤ 65535 → 3 + length one.now ≤ rooms.old.size → (n : ℕ) → kept_in rooms.new n ≡
@@ -41,7 +41,7 @@ fn keep_one(rooms: &mut Rooms, number: usize, one: &[u8])
     add_entry(rooms, number, one);
 }
 
-/// Keeps evidence of two datagrams in a room, where it fits.
+/// Keeps evidence of two datagrams in a room, if it fits.
 fn keep_two(rooms: &mut Rooms, number: usize, one: &[u8], two: &[u8])
     requires last { number < length rooms.old.rooms.items }
     ensures kept { length one.now ≤ 65535 → length two.now ≤ 65535 → 5 + length one.now + length two.now ≤ rooms.old.size
@@ -59,7 +59,7 @@ fn keep_two(rooms: &mut Rooms, number: usize, one: &[u8], two: &[u8])
     add_entry(rooms, number, two);
 }
 
-/// Keeps the datagrams of evidence in the room of a party, as the body of an EVIDENCE has them, where they fit.
+/// Keeps the datagrams of evidence in the room of a party, encoded as the body of an EVIDENCE, if they fit.
 pub fn keep_evidence(rooms: &mut Rooms, party: u16, evidence: &EvidenceView<'_>)
     requires last { party < length rooms.old.rooms.items }
     ensures kept { AreDatagramsInRange (datagrams_of evidence.now)

@@ -1,4 +1,4 @@
-//! What a peer and a broadcaster have in common: rules, a memory that stands for the inputs that it took, evidence in rooms, and what is still to
+//! What a peer and a broadcaster have in common: rules, a memory that represents the inputs taken, evidence in rooms, and what is still to
 //! be sent.
 #![tactic(auto)]
 

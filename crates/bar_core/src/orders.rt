@@ -2,7 +2,7 @@ ghost use Rattle.std.specs.Prelude.{◌≤◌, length, vec_capacity};
 
 use std::alloc::{AllocError, Global};
 
-/// What is to be sent for one input, in order, and how much of it was given out. All memory is taken when it is made.
+/// What is to be sent for one input, in order, and how much of it was given out. All memory is allocated at construction.
 #[derive(Drop)]
 pub struct Orders<T> {
     list: Vec<T>,
@@ -14,9 +14,9 @@ pub struct Orders<T> {
 
 impl<T: Copy> Orders<T> {
     ghost use Rattle.std.specs.Prelude.{◌≡◌, ◌+◌, ◌<◌, ◌≤◌, ◌++◌, ◌∷◌, [], ◌↔◌, IsTrue, IfOk, length};
-    ghost use Rattle.bar_core.specs.Orders.{left_in, GivesFirst};
+    ghost use Rattle.bar_core.specs.Code.Orders.{left_in, GivesFirst};
 
-    /// No orders, and room for so many.
+    /// An empty list with room for this many orders.
     pub fn make(alloc: Global, room: usize) -> Result<Orders<T>, AllocError>
         ensures empty { IfOk result (λ o. o.list.items ≡ []) }
         ensures given { IfOk result (λ o. o.given ≡ 0) }
@@ -30,14 +30,14 @@ impl<T: Copy> Orders<T> {
         })
     }
 
-    /// Whether all are given out.
+    /// Whether all orders were given out.
     pub fn is_empty(&self) -> bool
         ensures { IsTrue result ↔ (left_in self.now ≡ []) }
     {
         self.given == self.list.len()
     }
 
-    /// Forgets what was given out, and what wasn't.
+    /// Forgets all orders, given out or not.
     pub fn clear(&mut self)
         ensures { (self.new.list.items ≡ []) × (self.new.given ≡ 0) × (self.new.room ≡ self.old.room) }
     {
@@ -45,7 +45,7 @@ impl<T: Copy> Orders<T> {
         self.given = 0;
     }
 
-    /// Puts an order behind the others, where there is room.
+    /// Appends an order if there is room.
     pub fn push(&mut self, order: T)
         ensures pushed { length self.old.list.items < self.old.room → self.new.list.items ≡ self.old.list.items ++ order ∷ [] }
         ensures full { self.old.room ≤ length self.old.list.items → self.new.list.items ≡ self.old.list.items }
@@ -60,7 +60,7 @@ impl<T: Copy> Orders<T> {
         }
     }
 
-    /// The next one, which is given out now, or `None` where none is left.
+    /// Gives out the next order, or `None` if none is left.
     pub fn next(&mut self) -> Option<T>
         ensures first { GivesFirst result (left_in self.old) (left_in self.new) }
         ensures room { self.new.room ≡ self.old.room }

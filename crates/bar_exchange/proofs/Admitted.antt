@@ -16,18 +16,18 @@ use Rattle.bar_rules.specs.Member.{Member}
 use Rattle.bar_rules.specs.Peer.Admission.{is_admitted, is_row_met, is_to_all, is_named_again}
 use Rattle.bar_rules.specs.Peer.Exchanges.{role_of}
 use Rattle.bar_rules.specs.Peer.Knowledge.{Knowledge, has_heard_of}
-use Rattle.bar_exchange.specs.Keeping.{IsAdmittedNow}
+use Rattle.bar_exchange.specs.Code.Keeping.{IsAdmittedNow}
 use Rattle.bar_exchange.proofs.Places.{IsAt}
 use Rattle.bar_bytes.proofs.Options.{none-of}
 
--- It is of a side of the exchange; this member has the other side, and nothing of its kind was heard of that one.
+-- It is on a side of the exchange. This member is on the other side, and heard nothing of its kind from that side before.
 pub record IsAdmittedOf (me : Member) (k : Knowledge) (d : Datagram) (x : Exchange) (side : Role) : Type 0 where
   pub at : IsAt d.message x side
   pub mine : role_of me x ≡ other_role side
   pub new : k.heard (kind_of d.message.body) x side ≡ None
   pub row : is_row_met me k d.message.from d.message.to d.message.body ≡ true
 
--- what of it is told by its body
+-- properties of the datagram that follow from its body
 record IsToMe (me : Member) (k : Knowledge) (from to : ℕ) (b : Body) (p : ℕ × XKind × Role) : Type 0 where
   here : to ≡ me.party
   apart : from ≢ to
@@ -62,12 +62,12 @@ to_me me k s from to (KeyReq r kind role) p part for sent again row = record {
       (not-true _ (and_parts _ _ (and_parts _ _ row).0).1);
 }
 
--- the receiver has the other side
+-- the receiver is on the other side
 side_by : (me : Member) (r : ℕ) (kind : XKind) (side : Role) (from to : ℕ) → to ≡ me.party → from ≢ to → role_of me (exchange_by r kind side from to) ≡ other_role side
 side_by me r kind Initiator from to here apart = ap (λ t. if t then Initiator else Responder) (ne_eqb from me.party (λ e. apart (e ∙ sym here)))
 side_by me r kind Responder from to here apart = ap (λ t. if t then Initiator else Responder) (eq-eqb to me.party here)
 
--- An admitted datagram of an exchange is of one of its sides.
+-- An admitted datagram of an exchange is on one of its sides.
 pub record IsOfSide (me : Member) (k : Knowledge) (d : Datagram) (x : Exchange) : Type 0 where
   pub side : Role
   pub is : IsAdmittedOf me k d x side
@@ -101,7 +101,7 @@ admitted_of me k d bytes x h of = go (part_of d.message.body) refl
           };
         }
 
--- where its place is told
+-- if its place is known, it is on that side
 pub admitted_at : (me : Member) (k : Knowledge) (d : Datagram) (bytes : List ℕ) (x : Exchange) (side : Role) → IsAdmittedNow me k d bytes → IsAt d.message x side → IsAdmittedOf me k d x side
 admitted_at me k d bytes x side now at =
     let o = admitted_of me k d bytes x now (ap (option_map (λ (p : Place). p.exchange)) at) in

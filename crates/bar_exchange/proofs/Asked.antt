@@ -22,13 +22,13 @@ use Rattle.bar_rules.specs.Peer.Knowledge.{Knowledge, this_round, with_heard}
 use Rattle.bar_rules.specs.Peer.Sizes.{largest}
 use Rattle.bar_ledger.specs.declared.entry.Entry.{Entry}
 use Rattle.bar_ledger.specs.declared.ledger.Ledger.{Ledger}
-use Rattle.bar_ledger.specs.Asking.{asked_as, open_of}
-use Rattle.bar_ledger.specs.Kept.{Kept, newly, with_bytes, heard_of}
-use Rattle.bar_ledger.specs.Lookups.{seat_by}
-use Rattle.bar_ledger.specs.Memory.{HasSame, MayHear, find_in, kept_in, asked_in, opens_in, next_seat, added, can_hear}
-use Rattle.bar_ledger.specs.Recalls.{Recalls, IsKeptBy}
-use Rattle.bar_exchange.specs.Keeping.{IsAdmittedNow, HasRoomLeft, IsBegunWith}
-use Rattle.bar_exchange.specs.Parts.{ChangesKept, asked_entry}
+use Rattle.bar_ledger.specs.Code.Asking.{asked_as, open_of}
+use Rattle.bar_ledger.specs.Code.Kept.{Kept, newly, with_bytes, heard_of}
+use Rattle.bar_ledger.specs.Code.Lookups.{seat_by}
+use Rattle.bar_ledger.specs.Code.Memory.{HasSame, MayHear, find_in, kept_in, asked_in, opens_in, next_seat, added, can_hear}
+use Rattle.bar_ledger.specs.Code.Recalls.{Recalls, IsKeptBy}
+use Rattle.bar_exchange.specs.Code.Keeping.{IsAdmittedNow, HasRoomLeft, IsBegunWith}
+use Rattle.bar_exchange.specs.Code.Parts.{ChangesKept, asked_entry}
 use Rattle.bar_exchange.proofs.Admitted.{IsAdmittedOf, admitted_at}
 use Rattle.bar_exchange.proofs.Changes.{recalls_change}
 use Rattle.bar_exchange.proofs.KeptChanges.{there}
@@ -38,7 +38,7 @@ use Rattle.bar_exchange.proofs.Requests.{AsksFor, Begins, asks_for, one_asked, s
 use Rattle.bar_exchange.proofs.RoomLeft.{room_left}
 use Rattle.bar_exchange.proofs.Rooms.{none_heard}
 
--- What a request that is admitted now begins, where its exchange isn't kept.
+-- A request that is admitted now begins an exchange that isn't kept yet.
 pub record IsAsked (me : Member) (k : Knowledge) (l : Ledger) (d : Datagram) (bytes : List ℕ) (x : Exchange) (terms : Terms) : Type 0 where
   pub member : IsMember me
   pub recalled : Recalls me k l
@@ -67,14 +67,14 @@ has_seat me k l d bytes x terms a none =
     seat_free (asked_in l x.kind x.round)
     (ap (λ n. nat_lt n 2) (sym (a.recalled.asked x.kind x.round (recent me k l d bytes x terms a))) ∙ (asks me k l d bytes x terms a).free) none
 
--- there is room
+-- there is room in the ledger
 pub has_room : (me : Member) (k : Knowledge) (l : Ledger) (d : Datagram) (bytes : List ℕ) (x : Exchange) (terms : Terms) → IsAsked me k l d bytes x terms
     → IsDistinct same_exchange (kept_in l)
     → ((test : Exchange → Bool) → ((x : Exchange) → is_some (find_in l x) ≡ true → test x ≡ true) → list_all test (kept_in l) ≡ true)
     → nat_lt (length (kept_in l)) (exchanges_a_round * (l.shape.life + 2)) ≡ true
 has_room me k l d bytes x terms a distinct each = lt-ltb _ _ (room_left me k l a.recalled a.room distinct each)
 
--- the exchange isn't kept
+-- the exchange isn't kept yet
 pub not_kept : (me : Member) (k : Knowledge) (l : Ledger) (d : Datagram) (bytes : List ℕ) (x : Exchange) (terms : Terms) → IsAsked me k l d bytes x terms
     → is_some (find_in l x) ≡ true → ⊥
 not_kept me k l d bytes x terms a some =
@@ -105,7 +105,7 @@ is_found : (me : Member) (k : Knowledge) (l new : Ledger) (x : Exchange) (seat :
 is_found me k l new x seat terms h recent adds =
     adds.found x ∙ ap (λ b. if b then added l (asked_entry x seat terms) else find_in l x) (same_exchange_refl x) ∙ is_added me k l x seat terms h recent
 
--- and its request may be heard
+-- afterwards its request may be heard
 pub may_hear_request : (me : Member) (k : Knowledge) (l new : Ledger) (d : Datagram) (bytes : List ℕ) (x : Exchange) (seat : ℕ) (terms : Terms) → IsAsked me k l d bytes x terms
     → AddsEntry l new (asked_entry x seat terms) → MayHear new x (request_kind x.kind) bytes
 may_hear_request me k l new d bytes x seat terms a adds =

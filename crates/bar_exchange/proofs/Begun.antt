@@ -1,4 +1,4 @@
--- What a ledger recalls of an exchange once this peer asked for it or answered.
+-- What a ledger recalls of an exchange after this peer asked for it or answered.
 use Rattle.std.proofs.Common.{◌≡◌, ℕ, ◌+◌, ◌≤◌, List, Bool, true, false, ◌&&◌, ◌||◌, ◌==◌, Option, Some, None, is_some, refl, sym, ap, subst, ◌∙◌}
 use Rattle.std.specs.Prelude.{option_and_then, if◌then◌else◌}
 use Rattle.std.specs.Bool.{then_some}
@@ -27,19 +27,19 @@ use Rattle.bar_rules.specs.Peer.Knowledge.{Knowledge, with_said}
 use Rattle.bar_rules.specs.Peer.Terms.{body_on, terms_of, terms_by, trade_terms, offer_terms}
 use Rattle.bar_ledger.specs.declared.entry.Entry.{Entry}
 use Rattle.bar_ledger.specs.declared.ledger.Ledger.{Ledger}
-use Rattle.bar_ledger.specs.Hearing.{same_datagram, is_opening}
-use Rattle.bar_ledger.specs.Kept.{Kept, newly, with_new, heard_of}
-use Rattle.bar_ledger.specs.Lookups.{is_said, knows_commit, knows_answer, knows_offer, if_known, commit_of, history_of, offer_of, reply_of}
-use Rattle.bar_ledger.specs.Memory.{bytes_in}
-use Rattle.bar_ledger.specs.Recalls.{Recalls, IsKeptBy, kind_of_terms}
-use Rattle.bar_exchange.specs.Answering.{telling_kind, IsAnsweredWith}
-use Rattle.bar_exchange.specs.Keeping.{IsSaidNow, IsBegunWith, IsCommittedTo}
+use Rattle.bar_ledger.specs.Code.Hearing.{same_datagram, is_opening}
+use Rattle.bar_ledger.specs.Code.Kept.{Kept, newly, with_new, heard_of}
+use Rattle.bar_ledger.specs.Code.Lookups.{is_said, knows_commit, knows_answer, knows_offer, if_known, commit_of, history_of, offer_of, reply_of}
+use Rattle.bar_ledger.specs.Code.Memory.{bytes_in}
+use Rattle.bar_ledger.specs.Code.Recalls.{Recalls, IsKeptBy, kind_of_terms}
+use Rattle.bar_exchange.specs.Code.Answering.{telling_kind, IsAnsweredWith}
+use Rattle.bar_exchange.specs.Code.Keeping.{IsSaidNow, IsBegunWith, IsCommittedTo}
 use Rattle.bar_exchange.proofs.One.{RecallsOne}
 use Rattle.bar_exchange.proofs.Said.{said_is_of, body_same, body_first, revealed_same, marks_more}
 use Rattle.bar_exchange.proofs.Changed.{IsSet, IsAdded, set_changes, add_changes, changed_recalls}
 use Rattle.bar_exchange.proofs.Marks.{IsFound, one_found, kept_found, heard_same, or_true}
 
--- ---- marks, by what they stand for
+-- ---- what the marks of an entry mean
 
 abbrev marks_of : Kind → XKind → Role → Bool → Bool → Bool → Bool
 marks_of kinds.Case xkind role first case key = case
@@ -98,7 +98,7 @@ pub no_push : (a : Option (List UpdateId × List UpdateId)) → offer_terms a No
 no_push (Some v) = refl
 no_push None = refl
 
--- ---- asked
+-- ---- asking
 
 -- the entry of an exchange that this peer asks for
 abbrev pub asked_entry : Exchange → WindowTerms → Entry
@@ -174,7 +174,7 @@ one_asked me k d x terms s own b commit h = record {
         (ap (option_and_then reply_in) (body_same me k d (request_kind x.kind) x s kinds.Reply Responder (request_replies x.kind)) ∙ h.replies)
         ∙ no_push (option_and_then offer_in (body_on me (with_said me d k) kinds.Query x Initiator))
 
--- ---- answered
+-- ---- answering
 
 -- an entry with the terms of the answer
 abbrev pub answered_entry : Entry → WindowTerms → Bool → Entry

@@ -1,4 +1,4 @@
--- The blocks that this peer's briefcases are sealed from are those that are known.
+-- The blocks that this peer seals in briefcases are those of the knowledge.
 use Rattle.std.proofs.Common.{◌≡◌, ℕ, ◌+◌, ◌≤◌, List, All, Contains, Option, subst, arith}
 use Rattle.std.specs.Prelude.{IsSome}
 use Rattle.std.proofs.lemmas.List.Elements.{All-weaker, All-contains, All-contains_itself, All-take, All-filter}
@@ -10,17 +10,17 @@ use Rattle.bar_window.specs.declared.update.UpdateId.{UpdateId}
 use Rattle.bar_window.specs.declared.window.Window.{Window}
 use Rattle.bar_window.specs.Terms.{Terms, plain_terms}
 use Rattle.bar_window.specs.Updates.{minus}
-use Rattle.bar_window.specs.Window.{members, IsWindowOf}
+use Rattle.bar_window.specs.Code.Window.{members, IsWindowOf}
 use Rattle.bar_window.proofs.Members.{member_has_room}
 use Rattle.bar_terms.specs.Terms.{promised_updates, trade_count}
-use Rattle.bar_terms.specs.Windows.{AreWindowsOf}
-use Rattle.bar_wire.specs.Views.{AreTermWindows}
+use Rattle.bar_terms.specs.Code.Windows.{AreWindowsOf}
+use Rattle.bar_wire.specs.Code.Views.{AreTermWindows}
 use Rattle.bar_rules.specs.Member.{Member}
 use Rattle.bar_rules.specs.Peer.Knowledge.{Knowledge, this_round, answer_deadline}
 use Rattle.bar_store.specs.declared.store.Store.{Store}
-use Rattle.bar_store.specs.Held.{block_in}
-use Rattle.bar_store.specs.Holds.{Holds}
-use Rattle.bar_exchange.specs.Writing.{IsSealable}
+use Rattle.bar_store.specs.Code.Held.{block_in}
+use Rattle.bar_store.specs.Code.Holds.{Holds}
+use Rattle.bar_exchange.specs.Code.Writing.{IsSealable}
 use Rattle.bar_rules.proofs.TermWindows.{windows_of}
 
 -- an update is alive in a round
@@ -32,7 +32,7 @@ window_near life round w is =
     All-weaker (Contains (members w)) (IsNear life round) (λ u here. omega (arith, (member_has_room w u here).after, is.base)) (members w)
     (All-contains_itself (members w))
 
--- what is promised is of the windows of the terms
+-- promised updates are in the windows of the terms, so they are alive in the exchange's round
 promised_near : (life round cap : ℕ) (t : WindowTerms) (role : Role) → AreWindowsOf life round t
     → All (IsNear life round) (promised_updates cap (plain_terms t) role)
 promised_near life round cap (raw.Balanced nonce ha hb) Initiator are =
@@ -44,7 +44,7 @@ promised_near life round cap (raw.Balanced nonce ha hb) Responder are =
 promised_near life round cap (raw.Push young aged want give junk) Initiator are = window_near life round want are.2
 promised_near life round cap (raw.Push young aged want give junk) Responder are = window_near life round give are.3
 
--- their blocks are held as they are known, while the CASE may be sealed
+-- while the CASE may be sealed, the blocks that are held of them are those of the knowledge
 pub blocks_same : (me : Member) (k : Knowledge) (s : Store) (round cap : ℕ) (t : WindowTerms) (role : Role) → Holds me k s
     → this_round k ≤ round + answer_deadline → AreTermWindows me.session.shape round t
     → All (λ u. k.block u ≡ block_in s u) (promised_updates cap (plain_terms t) role)

@@ -1,4 +1,4 @@
--- A CASE that is said again: a KEYREQ is due with it exactly where the partner's is heard.
+-- If a CASE is sent again, a KEYREQ is due with it if and only if the partner's CASE is heard.
 use Rattle.std.proofs.Common.{◌≡◌, ◌∙◌, ◌≤◌, ◌+◌, Bool, true, false, ◌&&◌, ◌||◌, [], ◌∷◌, ◌++◌, is_some, sym, ap, refl, arith}
 use Rattle.std.specs.Prelude.{not, if◌then◌else◌}
 use Rattle.std.proofs.lemmas.Bool.{and_parts, false≢true, le-leb, leb-true}
@@ -19,10 +19,10 @@ use Rattle.bar_rules.specs.Peer.Orders.{AskKey, Resend}
 use Rattle.bar_rules.specs.Peer.Replies.{orders_when}
 use Rattle.bar_rules.specs.Peer.Ticks.{lacks_case, lacks_key, lacks_keys, reveals, case_again}
 use Rattle.bar_ledger.specs.declared.ledger.Ledger.{Ledger}
-use Rattle.bar_ledger.specs.Lookups.{heard_in, said_in}
-use Rattle.bar_ledger.specs.Recalls.{Recalls}
+use Rattle.bar_ledger.specs.Code.Lookups.{heard_in, said_in}
+use Rattle.bar_ledger.specs.Code.Recalls.{Recalls}
 
--- a CASE is said again as long as its exchange may be asked about
+-- a CASE that the partner may lack is in time, so its exchange may still be asked about
 case_in_time : (me : Member) (k : Knowledge) (x : Exchange) → lacks_case me k x ≡ true → this_round k ≤ x.round + answer_deadline
 case_in_time me k x lacks = leb-true _ _ (and_parts _ _ lacks).1
 
@@ -31,7 +31,7 @@ case_recent me k x member lacks =
     let life : 2 ≤ me.session.shape.life = member.session.shape.life_low in
     omega (arith, case_in_time me k x lacks, life)
 
--- what was heard of the partner is known
+-- what the ledger holds of the partner's datagrams is known
 pub partner_heard : (me : Member) (k : Knowledge) (l : Ledger) (kind : Kind) (x : Exchange) (role : Role) (heard : Bool) → Recalls me k l
     → IsRecent me k x.round → role ≡ role_of me x → heard ≡ is_some (heard_in l kind x (other_role role))
     → heard ≡ has_heard_of k kind x (other_role (role_of me x))
@@ -42,7 +42,7 @@ partner_heard me k l kind x role heard h recent own is =
     ∙ ap (λ o. is_some o) (sym (h.heard kind x other recent))
     ∙ some-mapped (datagram_bytes me.session) (k.heard kind x other)
 
--- no KEY is said or heard
+-- no KEY was said or heard
 pub keys_known : (me : Member) (k : Knowledge) (l : Ledger) (x : Exchange) (role : Role) (said heard : Bool) → Recalls me k l → IsRecent me k x.round
     → role ≡ role_of me x → said ≡ said_in l kinds.Key x role → heard ≡ is_some (heard_in l kinds.Key x (other_role role))
     → not (said || heard) ≡ lacks_keys me k x
@@ -52,7 +52,8 @@ keys_known me k l x role said heard h recent own is_said is_heard =
     in
     λ i. not (said_known i || partner_heard me k l kinds.Key x role heard h recent own is_heard i)
 
--- the own CASE is said, the partner's is heard or not, it is version 3 or not, a KEY is said, one is heard, a CASE and a KEY are in time
+-- the arguments: whether the own CASE is said, the partner's is heard, it is version 3, a KEY is said, a KEY is heard, a CASE is in time,
+-- and a KEY is in time
 due : (case heard third said key now late : Bool) → ((case && (if third then not (said || key) else not heard)) && now) ≡ true → late ≡ true
     → (((case && heard) && not key) && late) ≡ heard
 due false heard third said key now late e t = absurd (false≢true e)
@@ -71,7 +72,7 @@ key_due me k x member lacks =
     (is_in_time me.session k kinds.Case x.round) (is_in_time me.session k kinds.Key x.round)
     lacks (le-leb _ _ (case_recent me k x member lacks))
 
--- what goes with the CASE
+-- if the partner's CASE is heard, the KEYREQ is sent after the CASE
 pub with_key_request : (me : Member) (k : Knowledge) (x : Exchange) → IsMember me → lacks_case me k x ≡ true
     → has_heard_of k kinds.Case x (other_role (role_of me x)) ≡ true
     → case_again me k x ++ orders_when (lacks_key me k x) (AskKey x ∷ []) ≡ Resend kinds.Case x ∷ AskKey x ∷ []

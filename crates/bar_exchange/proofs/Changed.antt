@@ -1,4 +1,4 @@
--- A ledger whose entry of one exchange changes recalls what is known once a message of it is said.
+-- If a message of an exchange is said and its entry changes with it, the ledger recalls the new knowledge.
 use Rattle.std.proofs.Common.{◌≡◌, ℕ, ◌+◌, ◌≤◌, true, false, Option, Some, None, sym, ap, subst, ◌∙◌, inl, inr, arith}
 use Rattle.std.specs.Prelude.{option_map, IfSome, if◌then◌else◌}
 use Rattle.std.specs.Option.{option_and_then}
@@ -18,13 +18,13 @@ use Rattle.bar_rules.specs.Peer.Exchanges.{recent_of, with_exchange}
 use Rattle.bar_rules.specs.Peer.Knowledge.{Knowledge, this_round, with_said}
 use Rattle.bar_ledger.specs.declared.entry.Entry.{Entry}
 use Rattle.bar_ledger.specs.declared.ledger.Ledger.{Ledger}
-use Rattle.bar_ledger.specs.Asking.{asked_as, open_of}
-use Rattle.bar_ledger.specs.Kept.{Kept, is_for, is_recent, newly, with_new}
-use Rattle.bar_ledger.specs.Memory.{entries_in, find_in, asked_in, opens_in, added, HasSame, StaysOpen}
-use Rattle.bar_ledger.specs.Recalls.{Recalls, IsKeptBy}
+use Rattle.bar_ledger.specs.Code.Asking.{asked_as, open_of}
+use Rattle.bar_ledger.specs.Code.Kept.{Kept, is_for, is_recent, newly, with_new}
+use Rattle.bar_ledger.specs.Code.Memory.{entries_in, find_in, asked_in, opens_in, added, HasSame, StaysOpen}
+use Rattle.bar_ledger.specs.Code.Recalls.{Recalls, IsKeptBy}
 use Rattle.bar_ledger.proofs.Giving.{entries-later, found-passing}
 use Rattle.bar_ledger.proofs.Recent.{keeps-recent}
-use Rattle.bar_exchange.specs.Keeping.{IsSaidNow}
+use Rattle.bar_exchange.specs.Code.Keeping.{IsSaidNow}
 use Rattle.bar_exchange.proofs.One.{RecallsOne, RecallsRest, one_of, all_of}
 use Rattle.bar_exchange.proofs.Said.{other_same}
 use Rattle.bar_exchange.proofs.Same.{same_one}
@@ -35,7 +35,7 @@ opens_recent s l life =
     let all = entries-later l.shape.life l.round l.round l.slots.items (omega arith) in
     (keeps-recent l l l.round (λ y. ap (find (is_for y)) all ∙ found-passing y (is_recent l.shape.life l.round) (entries_in l)) all).opens s life
 
--- The entry of one exchange changed, and it is open now.
+-- The entry of one exchange changes, and the exchange is open afterwards.
 pub record IsChangedAt (x : Exchange) (o : Option Kept) (old new : Ledger) : Type 0 where
   pub here : find_in new x ≡ o
   pub other : (y : Exchange) → same_exchange x y ≡ false → find_in new y ≡ find_in old y
@@ -76,9 +76,9 @@ changed_recalls me k d kind x o old new h s c one own =
           (same_one me k (with_said me d k) y (find_in old y) (other_same me k d kind x y s f) (one_of me k old h y recent))
     ]
 
--- ---- by the calls of a ledger
+-- ---- for the calls of a ledger
 
--- The ledger has the entry in place of what it kept.
+-- The entry replaces the old one.
 pub record IsSet (old new : Ledger) (e : Entry) : Type 0 where
   pub found : (y : Exchange) → find_in new y ≡ (if same_exchange e.x y then option_map (with_new e) (find_in old y) else find_in old y)
   pub asked : (kind : XKind) (round : ℕ) → asked_in new kind round + asked_as kind round (find_in old e.x)
@@ -86,7 +86,7 @@ pub record IsSet (old new : Ledger) (e : Entry) : Type 0 where
   pub opens : StaysOpen e (find_in old e.x) → opens_in new ≡ with_exchange (then_some e.first_said e.x) (opens_in old)
   pub same : HasSame old new
 
--- whatever it was
+-- an entry whose first message is said stays open, whatever it replaces
 stays_open : (e : Entry) (o : Option Kept) → e.first_said ≡ true → StaysOpen e o
 stays_open e None first = tt
 stays_open e (Some k) first = λ was. first
@@ -109,7 +109,7 @@ set_changes old new x e kept s is named was role first = record {
   same = s.same;
 }
 
--- The ledger has the entry of an exchange more.
+-- The entry of one more exchange is added.
 pub record IsAdded (old new : Ledger) (e : Entry) : Type 0 where
   pub found : (y : Exchange) → find_in new y ≡ (if same_exchange e.x y then added old e else find_in old y)
   pub asked : (kind : XKind) (round : ℕ) → asked_in new kind round ≡ asked_in old kind round + asked_as kind round (added old e)

@@ -1,4 +1,4 @@
--- A ledger in which one exchange is changed.
+-- A ledger in which one exchange changes.
 use Rattle.std.proofs.Common.{◌≡◌, ◌∙◌, ℕ, ◌+◌, ◌≤◌, false, sym, ap, subst, inl, inr}
 use Rattle.std.specs.Prelude.{IfSome}
 use Rattle.std.proofs.lemmas.Bool.{cases_Bool}
@@ -11,12 +11,12 @@ use Rattle.bar_rules.specs.Member.{Member}
 use Rattle.bar_rules.specs.Peer.Agreement.{IsRecent}
 use Rattle.bar_rules.specs.Peer.Knowledge.{Knowledge}
 use Rattle.bar_ledger.specs.declared.ledger.Ledger.{Ledger}
-use Rattle.bar_ledger.specs.Memory.{HasSame, find_in, asked_in, opens_in}
-use Rattle.bar_ledger.specs.Recalls.{Recalls, IsKeptBy}
+use Rattle.bar_ledger.specs.Code.Memory.{HasSame, find_in, asked_in, opens_in}
+use Rattle.bar_ledger.specs.Code.Recalls.{Recalls, IsKeptBy}
 use Rattle.bar_exchange.proofs.One.{RecallsOne, RecallsRest, one_of, all_of}
 use Rattle.bar_exchange.proofs.Same.{SameOne, same_one}
 
--- Of the other exchanges the same is known and kept, and of this one what is known is kept.
+-- Only one exchange changes, in the knowledge and in the ledger, and the ledger recalls the new knowledge of it.
 pub record ChangesOne (me : Member) (k new : Knowledge) (old l : Ledger) (y : Exchange) : Type 0 where
   pub same : HasSame old l
   pub ticks : new.ticks ≡ k.ticks

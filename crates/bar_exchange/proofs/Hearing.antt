@@ -1,4 +1,4 @@
--- A datagram that is heard, and what is kept of its exchange.
+-- How hearing a datagram changes the kept state of its exchange.
 use Rattle.std.proofs.Common.{◌≡◌, ◌∙◌, ℕ, true, false, ◌&&◌, List, Option, Some, None, sym, ap, subst, inl, inr}
 use Rattle.std.specs.Prelude.{IfSome, option_map, if◌then◌else◌}
 use Rattle.std.proofs.lemmas.Bool.{cases_Bool}
@@ -13,12 +13,12 @@ use Rattle.bar_rules.specs.Values.{datagram_bytes}
 use Rattle.bar_rules.specs.Peer.Knowledge.{Knowledge, first_with}
 use Rattle.bar_ledger.specs.declared.entry.Entry.{Entry}
 use Rattle.bar_ledger.specs.declared.ledger.Ledger.{Ledger}
-use Rattle.bar_ledger.specs.Hearing.{same_datagram}
-use Rattle.bar_ledger.specs.Kept.{Kept, heard_of, with_bytes}
-use Rattle.bar_ledger.specs.Lookups.{heard_by}
-use Rattle.bar_ledger.specs.Memory.{MayHear, find_in, can_hear}
+use Rattle.bar_ledger.specs.Code.Hearing.{same_datagram}
+use Rattle.bar_ledger.specs.Code.Kept.{Kept, heard_of, with_bytes}
+use Rattle.bar_ledger.specs.Code.Lookups.{heard_by}
+use Rattle.bar_ledger.specs.Code.Memory.{MayHear, find_in, can_hear}
 use Rattle.bar_ledger.proofs.Changes.{bytes-entry}
-use Rattle.bar_exchange.specs.Keeping.{IsAdmittedNow}
+use Rattle.bar_exchange.specs.Code.Keeping.{IsAdmittedNow}
 use Rattle.bar_exchange.proofs.Admitted.{IsAdmittedOf}
 use Rattle.bar_exchange.proofs.KindCases.{one_kind}
 use Rattle.bar_exchange.proofs.KeptChanges.{IsThere}
@@ -26,7 +26,7 @@ use Rattle.bar_exchange.proofs.Places.{IsAt, is_of_at, first_one, same_flip}
 use Rattle.bar_exchange.proofs.Rooms.{KeepsBytes, bytes_heard}
 use Rattle.bar_bytes.proofs.Options.{or-untold}
 
--- The first datagram of a kind and side of an exchange is heard, and kept.
+-- The first datagram of a kind and side of an exchange is heard and kept.
 pub record HearsFirst (s : Session) (firsts : Kind → Exchange → Role → Option Datagram) (d : Datagram) (x : Exchange) (side : Role) (kind : Kind) (bytes : List ℕ)
     (old new : Kept) : Type 0 where
   pub at : IsAt d.message x side
@@ -70,7 +70,7 @@ hears_first s firsts d x side kind bytes old new h other role = elim (cases_Bool
     stays : is_of other x role d.message ≡ false → option_map (datagram_bytes s) (first_with d firsts other x role) ≡ heard_by other role old
     stays e = ap (option_map (datagram_bytes s)) (or-untold (firsts other x role) (is_of other x role d.message) d e) ∙ h.before other role
 
--- an admitted datagram of an exchange that is kept is the first
+-- an admitted datagram of a kept exchange is the first of its kind and side
 pub first_of : (me : Member) (k : Knowledge) (l : Ledger) (d : Datagram) (bytes : List ℕ) (x : Exchange) (side : Role) (kind : Kind) (kept new : Kept) → IsAdmittedNow me k d bytes
     → IsAdmittedOf me k d x side → kind ≡ kind_of d.message.body → IsThere me k l x kept → KeepsBytes kind bytes kept new → HearsFirst me.session k.heard d x side kind bytes kept new
 first_of me k l d bytes x side kind kept new now of is at keeps = record {
@@ -83,7 +83,7 @@ first_of me k l d bytes x side kind kept new now of is at keeps = record {
   keeps = keeps;
 }
 
--- what it may be heard as is kept
+-- if the datagram may be heard, its bytes are kept
 pub keeps_bytes : (l : Ledger) (x : Exchange) (kind : Kind) (bytes : List ℕ) (kept : Kept) → MayHear l x kind bytes → find_in l x ≡ Some kept → KeepsBytes kind bytes kept (with_bytes kind bytes kept)
 keeps_bytes l x kind bytes kept may found = record {
   role = ap (λ (e : Entry). e.role) (bytes-entry kind bytes kept);

@@ -1,4 +1,4 @@
--- A ledger in which what is kept of one exchange is changed by a datagram that is heard of it.
+-- A ledger in which a heard datagram changes the kept state of one exchange.
 use Rattle.std.proofs.Common.{◌≡◌, ◌≤◌, ◌+◌, ◌∙◌, ℕ, true, false, List, Option, Some, None, is_some, refl, sym, ap, subst}
 use Rattle.std.specs.Prelude.{length, option_map, option_and_then, IfSome, if◌then◌else◌}
 use Rattle.std.specs.Option.{option_map_or}
@@ -19,29 +19,29 @@ use Rattle.bar_rules.specs.Peer.Exchanges.{role_of}
 use Rattle.bar_rules.specs.Peer.Knowledge.{Knowledge, has_said_of}
 use Rattle.bar_rules.specs.Peer.Sizes.{largest}
 use Rattle.bar_ledger.specs.declared.ledger.Ledger.{Ledger}
-use Rattle.bar_ledger.specs.Hearing.{hears}
-use Rattle.bar_ledger.specs.Kept.{Kept, IsKeptFor, heard_of}
-use Rattle.bar_ledger.specs.Lookups.{heard_by, said_by}
-use Rattle.bar_ledger.specs.Memory.{MayHear, find_in, bytes_in, can_hear}
-use Rattle.bar_ledger.specs.Recalls.{Recalls, IsKeptBy}
+use Rattle.bar_ledger.specs.Code.Hearing.{hears}
+use Rattle.bar_ledger.specs.Code.Kept.{Kept, IsKeptFor, heard_of}
+use Rattle.bar_ledger.specs.Code.Lookups.{heard_by, said_by}
+use Rattle.bar_ledger.specs.Code.Memory.{MayHear, find_in, bytes_in, can_hear}
+use Rattle.bar_ledger.specs.Code.Recalls.{Recalls, IsKeptBy}
 use Rattle.bar_ledger.proofs.Changes.{found-own}
-use Rattle.bar_exchange.specs.Keeping.{IsAdmittedNow}
-use Rattle.bar_exchange.specs.Parts.{ChangesKept}
+use Rattle.bar_exchange.specs.Code.Keeping.{IsAdmittedNow}
+use Rattle.bar_exchange.specs.Code.Parts.{ChangesKept}
 use Rattle.bar_exchange.proofs.Admitted.{IsAdmittedOf}
 use Rattle.bar_exchange.proofs.Changes.{recalls_change}
 use Rattle.bar_exchange.proofs.One.{RecallsOne, one_of}
 use Rattle.bar_exchange.proofs.Same.{SameOne}
 
--- ---- what is known of the other exchanges
+-- ---- the knowledge of the other exchanges
 
--- Of all exchanges but one the same is known.
+-- The knowledge of all exchanges except one is the same.
 pub record KnowsOthers (k new : Knowledge) (y : Exchange) : Type 0 where
   pub ticks : new.ticks ≡ k.ticks
   pub opens : new.opens ≡ k.opens
   pub asked : (kind : XKind) (round : ℕ) → new.asked kind round ≡ k.asked kind round
   pub others : (x : Exchange) → same_exchange y x ≡ false → SameOne k new x
 
--- An exchange is kept, and may still be asked about.
+-- The exchange is kept, and may still be asked about.
 pub record IsThere (me : Member) (k : Knowledge) (l : Ledger) (y : Exchange) (kept : Kept) : Type 0 where
   pub found : find_in l y ≡ Some kept
   pub named : kept.entry.x ≡ y
@@ -60,9 +60,9 @@ there me k l y h some = go (find_in l y) refl some (h.kept y) (found-own y l.sha
         in
         (kept, record { found = e; named = own.named; recent = recent; by = by; one = subst (RecallsOne me k y) e (one_of me k l h y recent) })
 
--- ---- a change of what is kept of one
+-- ---- a change of the kept state of one exchange
 
--- What the change keeps of the exchange is what is known of it.
+-- The changed state represents the knowledge of the exchange.
 pub record KeepsOne (me : Member) (new : Knowledge) (y : Exchange) (kept : Kept) : Type 0 where
   pub one : RecallsOne me new y (Some kept)
   pub by : IsKeptBy me y kept
@@ -84,7 +84,7 @@ recalls_kept me k new old l y change kept h c others at keeps =
       kept = subst (λ o. IfSome o (IsKeptBy me y)) (sym found) keeps.by;
     })
 
--- what is known of an exchange that can't be asked about isn't recalled
+-- if the exchange can't be asked about any more, the unchanged ledger recalls the new knowledge
 pub recalls_stale : (me : Member) (k new : Knowledge) (l : Ledger) (y : Exchange) → Recalls me k l → KnowsOthers k new y → (IsRecent me k y.round → ⊥) → Recalls me new l
 recalls_stale me k new l y h others stale =
     recalls_change me k new l l y h (record {
@@ -98,9 +98,9 @@ recalls_stale me k new l y h others stale =
       kept = h.kept y;
     })
 
--- ---- that it may be heard
+-- ---- the datagram may be heard
 
--- an exchange of which something was said is kept
+-- if something was said in an exchange, it is kept
 pub said_kept : (me : Member) (k : Knowledge) (l : Ledger) (x : Exchange) (kind : Kind) (role : Role) → Recalls me k l → IsRecent me k x.round → has_said_of k kind x role ≡ true
     → is_some (find_in l x) ≡ true
 said_kept me k l x kind role h recent said = go (find_in l x) (sym (h.said kind x role recent) ∙ said)
@@ -109,7 +109,7 @@ said_kept me k l x kind role h recent said = go (find_in l x) (sym (h.said kind 
     go None e = absurd (false≢true e)
     go (Some kept) e = refl
 
--- and so is one of which something was heard
+-- if something was heard in an exchange, it is kept
 pub heard_kept : (me : Member) (k : Knowledge) (l : Ledger) (x : Exchange) (kind : Kind) (role : Role) → Recalls me k l → IsRecent me k x.round → is_some (k.heard kind x role) ≡ true
     → is_some (find_in l x) ≡ true
 heard_kept me k l x kind role h recent heard = go (k.heard kind x role) (find_in l x) heard (h.heard kind x role recent)
@@ -119,7 +119,7 @@ heard_kept me k l x kind role h recent heard = go (k.heard kind x role) (find_in
     go (Some d) None heard e = absurd (none-some (datagram_bytes me.session d) (sym e))
     go (Some d) (Some kept) heard e = refl
 
--- nothing is kept of what the other side wasn't heard to say
+-- if nothing of a kind was heard from the other side, none is kept
 pub none_kept : (me : Member) (k : Knowledge) (l : Ledger) (x : Exchange) (kind : Kind) (side : Role) → Recalls me k l → IsRecent me k x.round → role_of me x ≡ other_role side
     → k.heard kind x side ≡ None → bytes_in l x kind ≡ None
 none_kept me k l x kind side h recent mine none =
@@ -143,7 +143,7 @@ may_hear_of me k l d bytes x side kind h now of is recent kept heard = record {
   heard = heard;
 }
 
--- what the side of this member hears in an exchange that is kept
+-- an admitted datagram of a kept exchange may be heard, if this member's side hears its kind
 pub may_hear_at : (me : Member) (k : Knowledge) (l : Ledger) (d : Datagram) (bytes : List ℕ) (x : Exchange) (side : Role) (kind : Kind) (kept : Kept) → Recalls me k l → IsAdmittedNow me k d bytes
     → IsAdmittedOf me k d x side → kind ≡ kind_of d.message.body → IsThere me k l x kept → hears kind x.kind (other_role side) ≡ true → MayHear l x kind bytes
 may_hear_at me k l d bytes x side kind kept h now of is at e =

@@ -1,4 +1,4 @@
--- Kinds of datagrams, by their codes.
+-- Case analysis on the kinds of datagrams.
 use Rattle.std.proofs.Common.{◌≡◌, ◌∙◌, true, refl, sym, ap}
 use Rattle.std.proofs.lemmas.Bool.{eqb-true, eq-eqb}
 use Rattle.std.proofs.lemmas.Option.{same_Some}
@@ -6,9 +6,9 @@ use Rattle.bar_wire.specs.Kinds.{code_of, kind_at}
 use Rattle.bar_wire.specs.declared.kind.Kind.{Kind}
 use Rattle.bar_wire.specs.declared.kind.Kind.TheVariants as kinds
 use Rattle.bar_wire.proofs.Head.{kind_again}
-use Rattle.bar_ledger.specs.Hearing.{same_datagram}
+use Rattle.bar_ledger.specs.Code.Hearing.{same_datagram}
 
--- what holds of each of the twelve
+-- a property that holds for each of the twelve kinds holds for every kind
 pub each_kind : (P : Kind → Type 0) → P kinds.Manifest → P kinds.Block → P kinds.Request → P kinds.Response → P kinds.Divulge → P kinds.Query → P kinds.Reply
     → P kinds.Case → P kinds.KeyReq → P kinds.Key → P kinds.Evidence → P kinds.Evict → (kind : Kind) → P kind
 each_kind P a b c d e f g h i j k l kinds.Manifest = a

@@ -1,4 +1,4 @@
--- What is known of a part of the terms, by the entry of an exchange.
+-- The knowledge of a part of the terms, from the entry of an exchange.
 use Rattle.std.proofs.Common.{◌≡◌, ◌∙◌, Bool, true, false, Option, Some, None, if◌then◌else◌, refl, sym, ap}
 use Rattle.std.specs.Prelude.{option_map, option_and_then, IfSome}
 use Rattle.std.specs.Option.{option_map_or}
@@ -9,10 +9,10 @@ use Rattle.bar_window.specs.declared.terms.Terms.{Terms as WindowTerms}
 use Rattle.bar_window.specs.Terms.{Terms, plain_terms}
 use Rattle.bar_rules.specs.Member.{Member}
 use Rattle.bar_ledger.specs.declared.ledger.Ledger.{Ledger}
-use Rattle.bar_ledger.specs.Kept.{Kept}
-use Rattle.bar_ledger.specs.Lookups.{if_known, is_known_in}
-use Rattle.bar_ledger.specs.Memory.{find_in}
-use Rattle.bar_ledger.specs.Recalls.{IsKeptBy, kind_of_terms}
+use Rattle.bar_ledger.specs.Code.Kept.{Kept}
+use Rattle.bar_ledger.specs.Code.Lookups.{if_known, is_known_in}
+use Rattle.bar_ledger.specs.Code.Memory.{find_in}
+use Rattle.bar_ledger.specs.Code.Recalls.{IsKeptBy, kind_of_terms}
 
 -- a part of the terms that a ledger knows
 abbrev pub part_in : {X : Type 0} → (Role → Kept → Bool) → (Terms → Option X) → Ledger → Exchange → Option X
@@ -39,7 +39,7 @@ is_known {X = X} knows part l x b o is has same =
     go None has = refl
     go (Some kept) has = ap (λ b. if b then part (plain_terms kept.entry.terms) else None) has
 
--- the terms of an exchange of a kind have no part of the other kind's
+-- the terms of an exchange contain no part of the other kind of exchange
 pub no_part : {X : Type 0} (knows : Role → Kept → Bool) (part : Terms → Option X) (kind : XKind) → ((t : Terms) → kind_of_terms t ≡ kind → part t ≡ None)
     → (me : Member) (l : Ledger) (x : Exchange) → IfSome (find_in l x) (IsKeptBy me x) → x.kind ≡ kind → part_in knows part l x ≡ None
 no_part {X = X} knows part kind none me l x own is = go (find_in l x) own

@@ -14,7 +14,7 @@ use Rattle.bar_wire.specs.Bodies.{history_in, offer_in, reply_in}
 use Rattle.bar_wire.specs.Datagram.{Datagram, Body, Manifest, Block, Request, Response, Divulge, Query, Reply, Case, KeyReq, Key, Evidence, Evict, Place, place_by, part_of, kind_of, is_of, exchange_of}
 use Rattle.bar_wire.specs.declared.kind.Kind.{Kind}
 use Rattle.bar_wire.specs.declared.kind.Kind.TheVariants as kinds
-use Rattle.bar_wire.specs.Views.{AreTermWindows}
+use Rattle.bar_wire.specs.Code.Views.{AreTermWindows}
 use Rattle.bar_rules.specs.Member.{Member}
 use Rattle.bar_rules.specs.Values.{datagram_bytes}
 use Rattle.bar_rules.specs.Peer.Admission.{is_row_met}
@@ -23,13 +23,13 @@ use Rattle.bar_rules.specs.Peer.Knowledge.{Knowledge, has_said_of, with_heard}
 use Rattle.bar_rules.specs.Peer.Terms.{body_on}
 use Rattle.bar_ledger.specs.declared.entry.Entry.{Entry}
 use Rattle.bar_ledger.specs.declared.ledger.Ledger.{Ledger}
-use Rattle.bar_ledger.specs.Hearing.{same_datagram, hears}
-use Rattle.bar_ledger.specs.Kept.{Kept, with_bytes}
-use Rattle.bar_ledger.specs.Lookups.{is_said, seat_by, knows_commit, knows_answer, knows_offer, if_known, commit_of, history_of, offer_of, reply_of}
-use Rattle.bar_ledger.specs.Memory.{MayHear, find_in, can_hear}
-use Rattle.bar_ledger.specs.Recalls.{Recalls, IsKeptBy, kind_of_terms}
-use Rattle.bar_exchange.specs.Keeping.{IsAdmittedNow, is_later}
-use Rattle.bar_exchange.specs.Parts.{ChangesKept}
+use Rattle.bar_ledger.specs.Code.Hearing.{same_datagram, hears}
+use Rattle.bar_ledger.specs.Code.Kept.{Kept, with_bytes}
+use Rattle.bar_ledger.specs.Code.Lookups.{is_said, seat_by, knows_commit, knows_answer, knows_offer, if_known, commit_of, history_of, offer_of, reply_of}
+use Rattle.bar_ledger.specs.Code.Memory.{MayHear, find_in, can_hear}
+use Rattle.bar_ledger.specs.Code.Recalls.{Recalls, IsKeptBy, kind_of_terms}
+use Rattle.bar_exchange.specs.Code.Keeping.{IsAdmittedNow, is_later}
+use Rattle.bar_exchange.specs.Code.Parts.{ChangesKept}
 use Rattle.bar_exchange.proofs.Admitted.{IsAdmittedOf, admitted_of}
 use Rattle.bar_exchange.proofs.Hearing.{HearsFirst, hears_first, first_of, keeps_bytes}
 use Rattle.bar_exchange.proofs.KindCases.{each_kind}
@@ -40,7 +40,7 @@ use Rattle.bar_exchange.proofs.Places.{IsAt, not_of_kind}
 use Rattle.bar_exchange.proofs.Same.{SameParts, body_same, terms_same}
 use Rattle.bar_bytes.proofs.Options.{or-untold}
 
--- ---- what its row tells
+-- ---- what follows from its row
 
 pub later_said : (me : Member) (k : Knowledge) (from to : ℕ) (b : Body) (x : Exchange) (side : Role) → is_later (kind_of b) ≡ true
     → option_map (place_by from to) (part_of b) ≡ Some (record { exchange = x; role = side }) → is_row_met me k from to b ≡ true
@@ -83,9 +83,9 @@ later_others me k d y side at e = record {
   others = learned_other me k d y side at;
 }
 
--- ---- what is kept after it
+-- ---- the kept state after it
 
--- All that is kept is the same, but for what comes after the terms.
+-- All kept state is the same, except the datagrams that follow the terms.
 record SameKept (old new : Kept) : Type 0 where
   entry : new.entry ≡ old.entry
   first : new.first ≡ old.first
@@ -111,13 +111,13 @@ offer_same : (role : Role) (old new : Kept) → SameKept old new → knows_offer
 offer_same Initiator old new s = ap (λ (e : Entry). e.first_said) s.entry
 offer_same Responder old new s = ap (λ o. is_some o) s.first
 
--- what is known of the terms is read of the entry
+-- the known parts of the terms depend only on this state
 part_same : {X : Type 0} (part : Terms → Option X) (knows : Role → Kept → Bool) (old new : Kept) → SameKept old new → ((role : Role) → knows role new ≡ knows role old)
     → if_known (knows new.entry.role new) part new ≡ if_known (knows old.entry.role old) part old
 part_same part knows old new s same =
     (λ i. if knows (s.entry i).role new then part (plain_terms (s.entry i).terms) else None) ∙ ap (λ b. if b then part (plain_terms old.entry.terms) else None) (same old.entry.role)
 
--- of the terms nothing is told
+-- these kinds contain no part of the terms
 later_apart : (kind : Kind) → is_later kind ≡ true → (same_datagram kind kinds.Response ≡ false) × (same_datagram kind kinds.Query ≡ false) × (same_datagram kind kinds.Reply ≡ false)
 later_apart kind e = each_kind (λ kind. is_later kind ≡ true → (same_datagram kind kinds.Response ≡ false) × (same_datagram kind kinds.Query ≡ false) × (same_datagram kind kinds.Reply ≡ false))
     no no no no no no no (λ e. (refl, refl, refl)) (λ e. (refl, refl, refl)) (λ e. (refl, refl, refl)) no no kind e

@@ -1,4 +1,4 @@
--- What a datagram of an exchange tells, and what it leaves.
+-- What is learned from a datagram of an exchange, and what isn't changed by it.
 use Rattle.std.proofs.Common.{◌≡◌, ℕ, Bool, true, false, refl}
 use Rattle.std.proofs.lemmas.Bool.{false≢true}
 use Rattle.bar_window.specs.declared.exchange.Exchange.{Exchange}
@@ -16,7 +16,7 @@ use Rattle.bar_exchange.proofs.Places.{IsAt, not_of_other}
 use Rattle.bar_exchange.proofs.Same.{SameOne}
 use Rattle.bar_bytes.proofs.Options.{or-untold}
 
--- ---- what it leaves
+-- ---- what is unchanged
 
 pub stays_ticks : (me : Member) (k : Knowledge) (d : Datagram) (b : Body) → (learned me d k b).ticks ≡ k.ticks
 stays_ticks me k d (Manifest r ds) = refl
@@ -46,7 +46,7 @@ stays_open me k d (Key g) = refl
 stays_open me k d (Evidence ds) = refl
 stays_open me k d (Evict r ps) = refl
 
--- nothing is told of another exchange
+-- the knowledge of other exchanges is unchanged
 pub learned_other : (me : Member) (k : Knowledge) (d : Datagram) (y : Exchange) (side : Role) → IsAt d.message y side → (x : Exchange) → same_exchange y x ≡ false
     → SameOne k (with_heard me d k) x
 learned_other me k d y side at x other = go d.message.body
@@ -68,9 +68,9 @@ learned_other me k d y side at x other = go d.message.body
     go (Evidence ds) = record { heard = heard; said = λ kind role. refl; seats = refl; revealed = refl }
     go (Evict r ps) = record { heard = λ kind role. refl; said = λ kind role. refl; seats = refl; revealed = refl }
 
--- ---- what it tells
+-- ---- what is learned
 
--- It is heard, and tells nothing more of exchanges.
+-- The datagram was heard, and nothing else about exchanges changes.
 pub record AddsHeard (k new : Knowledge) (d : Datagram) : Type 0 where
   pub heard : (kind : Kind) (x : Exchange) (role : Role) → new.heard kind x role ≡ first_with d k.heard kind x role
   pub said : (kind : Kind) (x : Exchange) (role : Role) → new.said kind x role ≡ k.said kind x role

@@ -1,4 +1,4 @@
--- What a ledger recalls of an exchange once a CASE or a KEY of it is said.
+-- What a ledger recalls of an exchange after a CASE or a KEY of it is said.
 use Rattle.std.proofs.Common.{◌≡◌, ℕ, List, Bool, true, false, ◌&&◌, ◌||◌, ◌==◌, Option, Some, None, Bor, is_some, refl, sym, ap, subst, ◌∙◌, inl, inr}
 use Rattle.std.specs.Prelude.{option_map, option_and_then, IfSome, if◌then◌else◌}
 use Rattle.std.specs.Bool.{then_some}
@@ -26,20 +26,20 @@ use Rattle.bar_rules.specs.Peer.Knowledge.{Knowledge, with_said, has_said_of}
 use Rattle.bar_rules.specs.Peer.Terms.{body_on, terms_of, terms_by, trade_terms, offer_terms}
 use Rattle.bar_ledger.specs.declared.entry.Entry.{Entry}
 use Rattle.bar_ledger.specs.declared.ledger.Ledger.{Ledger}
-use Rattle.bar_ledger.specs.Hearing.{is_opening}
-use Rattle.bar_ledger.specs.Kept.{Kept, IsKeptFor, with_new, heard_of}
-use Rattle.bar_ledger.specs.Lookups.{heard_by, is_said, knows_commit, knows_answer, knows_offer, if_known, commit_of, history_of, offer_of, reply_of}
-use Rattle.bar_ledger.specs.Memory.{find_in}
-use Rattle.bar_ledger.specs.Recalls.{Recalls, IsKeptBy}
+use Rattle.bar_ledger.specs.Code.Hearing.{is_opening}
+use Rattle.bar_ledger.specs.Code.Kept.{Kept, IsKeptFor, with_new, heard_of}
+use Rattle.bar_ledger.specs.Code.Lookups.{heard_by, is_said, knows_commit, knows_answer, knows_offer, if_known, commit_of, history_of, offer_of, reply_of}
+use Rattle.bar_ledger.specs.Code.Memory.{find_in}
+use Rattle.bar_ledger.specs.Code.Recalls.{Recalls, IsKeptBy}
 use Rattle.bar_ledger.proofs.Changes.{found-own}
-use Rattle.bar_exchange.specs.Keeping.{IsSaidNow}
+use Rattle.bar_exchange.specs.Code.Keeping.{IsSaidNow}
 use Rattle.bar_exchange.proofs.One.{RecallsOne, one_of}
 use Rattle.bar_exchange.proofs.Said.{body_same, revealed_same, marks_more}
 use Rattle.bar_exchange.proofs.Changed.{IsSet, set_changes, changed_recalls}
 
--- ---- what is kept, by its entry
+-- ---- the kept state with its entry
 
--- An entry is that of an exchange.
+-- The entry is that of the exchange.
 pub record IsFound (l : Ledger) (x : Exchange) (e : Entry) : Type 0 where
   pub rest : Kept
   pub is : find_in l x ≡ Some (with_new e rest)
@@ -57,7 +57,7 @@ found_by l x e same = go (find_in l x) refl same
         subst (λ (o : Option Kept). IfSome o (IsKeptFor x l.shape.life l.round)) is (found-own x l.shape.life l.round l.slots.items) in
         record { rest = kept; is = is; named = own.named }
 
--- what is recalled of it
+-- what is recalled of the exchange
 pub one_found : (me : Member) (k : Knowledge) (l : Ledger) (x : Exchange) (e : Entry) → Recalls me k l → IsRecent me k x.round → (f : IsFound l x e)
     → RecallsOne me k x (Some (with_new e f.rest))
 one_found me k l x e h recent f = subst (RecallsOne me k x) f.is (one_of me k l h x recent)
@@ -65,7 +65,7 @@ one_found me k l x e h recent f = subst (RecallsOne me k x) f.is (one_of me k l 
 pub kept_found : (me : Member) (k : Knowledge) (l : Ledger) (x : Exchange) (e : Entry) → Recalls me k l → (f : IsFound l x e) → IsKeptBy me x (with_new e f.rest)
 kept_found me k l x e h f = subst (λ (o : Option Kept). IfSome o (IsKeptBy me x)) f.is (h.kept x)
 
--- ---- what was heard stays
+-- ---- what was heard is unchanged
 
 heard_entry : (kind : Kind) (kept : Kept) (e : Entry) → e.x ≡ kept.entry.x → e.role ≡ kept.entry.role → heard_of kind (with_new e kept) ≡ heard_of kind kept
 heard_entry kinds.Divulge kept e x role = refl
@@ -78,7 +78,7 @@ pub heard_same : (kind : Kind) (side : Role) (kept : Kept) (e : Entry) → e.x �
     → heard_by kind side kept ≡ heard_by kind side (with_new e kept)
 heard_same kind side kept e x role = λ i. if same_role side (other_role (sym role i)) then sym (heard_entry kind kept e x role) i else None
 
--- ---- what is known of the terms stays, where the first message is said as before
+-- ---- the known terms are unchanged if the mark of the first message is
 
 pub commit_known : (role : Role) (kept : Kept) (e : Entry) → e.first_said ≡ kept.entry.first_said → knows_commit role kept ≡ knows_commit role (with_new e kept)
 commit_known Initiator kept e first = sym first
@@ -111,7 +111,7 @@ key_mark : (kind : Kind) (e : Entry) → is_said kind (with_marks e e.case_said 
 key_mark kinds.Key e = or_true e.key_said
 key_mark kind e = sym (or-false _)
 
--- A kind opens no exchange, and answers nothing.
+-- The kind is neither that of a request nor that of an answer.
 record IsLater (kind : Kind) : Type 0 where
   request : (code_of kind == code_of kinds.Request) ≡ false
   response : (code_of kind == code_of kinds.Response) ≡ false
@@ -170,9 +170,9 @@ key_recalls me k d x old new e h s f first set =
     mark_recalls me k d kinds.Key x old new e e.case_said true h s (record { request = refl; response = refl; query = refl; reply = refl }) f first
     (λ other. key_mark other e) set
 
--- ---- what is said before
+-- ---- what was said before
 
--- where nothing is kept, nothing is recalled
+-- if an exchange isn't kept, nothing is recalled of it
 pub one_none : (me : Member) (k : Knowledge) (l : Ledger) (x : Exchange) → Recalls me k l → IsRecent me k x.round → is_some (find_in l x) ≡ false
     → RecallsOne me k x None
 one_none me k l x h recent none = go (find_in l x) refl none
@@ -181,7 +181,7 @@ one_none me k l x h recent none = go (find_in l x) refl none
     go None at s = subst (RecallsOne me k x) at (one_of me k l h x recent)
     go (Some kept) at s = absurd (false≢true (sym s))
 
--- an entry is found where the exchange is kept
+-- an entry is found if and only if the exchange is kept
 pub some_found : (r : Option (Bor Entry)) (o : Option Kept) → option_copied r ≡ option_map (λ kept. kept.entry) o → is_some o ≡ is_some r
 some_found None None e = refl
 some_found (Some b) (Some kept) e = refl
@@ -196,7 +196,7 @@ no_offer : (a : Option (List UpdateId × List UpdateId)) (b : Option (List Updat
 no_offer (Some v) b e = ap (λ b. is_some (offer_terms (Some v) b)) e
 no_offer None b e = refl
 
--- a responder that said nothing knows no terms
+-- a responder that said nothing doesn't know the terms
 silent : (me : Member) (k : Knowledge) (x : Exchange) (kept : Kept) → RecallsOne me k x (Some kept) → kept.entry.role ≡ Responder → kept.entry.first_said ≡ false
     → (kind : XKind) → is_some (terms_by kind me k x) ≡ false
 silent me k x kept h role f Balanced =
@@ -206,7 +206,7 @@ silent me k x kept h role f Push =
     no_offer (option_and_then offer_in (body_on me k kinds.Query x Initiator)) _
     (h.replies ∙ (λ i. if_known (knows_answer (role i) kept) reply_of kept) ∙ ap (λ b. if b then reply_of (plain_terms kept.entry.terms) else None) f)
 
--- where the terms are known, this peer's first message is said
+-- if the terms are known, this peer's first message is said
 pub first_by_terms : (me : Member) (k : Knowledge) (x : Exchange) (kept : Kept) → RecallsOne me k x (Some kept) → IsKeptBy me x kept → is_some (terms_of me k x) ≡ true
     → kept.entry.first_said ≡ true
 first_by_terms me k x kept h own known = elim (cases_Bool kept.entry.first_said) [
@@ -218,12 +218,12 @@ first_by_terms me k x kept h own known = elim (cases_Bool kept.entry.first_said)
     go Initiator is f = own.asked is
     go Responder is f = absurd (both_ways (is_some (terms_of me k x)) (silent me k x kept h is f x.kind) known)
 
--- and where its CASE is said
+-- if this peer's CASE is said, so is its first message
 pub first_by_case : (me : Member) (k : Knowledge) (x : Exchange) (kept : Kept) → RecallsOne me k x (Some kept) → IsKeptBy me x kept
     → has_said_of k kinds.Case x (role_of me x) ≡ true → kept.entry.first_said ≡ true
 first_by_case me k x kept h own said = own.opened (and_parts _ _ (sym (h.said kinds.Case (role_of me x)) ∙ said)).1
 
--- the terms are complete
+-- if the terms are known, the entry is complete
 pub complete_by_terms : (me : Member) (k : Knowledge) (x : Exchange) (kept : Kept) → RecallsOne me k x (Some kept) → is_some (terms_of me k x) ≡ true
     → kept.entry.complete ≡ true
 complete_by_terms me k x kept h known = is_known kept.entry.complete _ (sym (ap (λ o. is_some o) h.terms) ∙ known)

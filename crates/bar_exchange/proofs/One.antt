@@ -1,4 +1,4 @@
--- What a ledger recalls of one exchange, by what it keeps of it.
+-- What a ledger recalls of one exchange, from its kept state.
 use Rattle.std.proofs.Common.{◌≡◌, ℕ, Option}
 use Rattle.std.specs.Prelude.{false, option_and_then, option_map, IfSome}
 use Rattle.std.specs.Option.{option_map_or}
@@ -15,10 +15,10 @@ use Rattle.bar_rules.specs.Peer.Agreement.{IsRecent}
 use Rattle.bar_rules.specs.Peer.Knowledge.{Knowledge, this_round, has_said_of}
 use Rattle.bar_rules.specs.Peer.Terms.{body_on, terms_of}
 use Rattle.bar_ledger.specs.declared.ledger.Ledger.{Ledger}
-use Rattle.bar_ledger.specs.Kept.{Kept}
-use Rattle.bar_ledger.specs.Lookups.{heard_by, said_by, seat_by, knows_commit, knows_answer, knows_offer, if_known, commit_of, history_of, offer_of, reply_of}
-use Rattle.bar_ledger.specs.Memory.{find_in, asked_in, opens_in}
-use Rattle.bar_ledger.specs.Recalls.{Recalls, IsKeptBy, complete_terms}
+use Rattle.bar_ledger.specs.Code.Kept.{Kept}
+use Rattle.bar_ledger.specs.Code.Lookups.{heard_by, said_by, seat_by, knows_commit, knows_answer, knows_offer, if_known, commit_of, history_of, offer_of, reply_of}
+use Rattle.bar_ledger.specs.Code.Memory.{find_in, asked_in, opens_in}
+use Rattle.bar_ledger.specs.Code.Recalls.{Recalls, IsKeptBy, complete_terms}
 
 pub record RecallsOne (me : Member) (k : Knowledge) (x : Exchange) (o : Option Kept) : Type 0 where
   pub heard : (kind : Kind) (role : Role) → option_map (datagram_bytes me.session) (k.heard kind x role) ≡ option_and_then (heard_by kind role) o
@@ -50,7 +50,7 @@ one_of me k l h x recent = record {
   terms = h.terms x recent;
 }
 
--- The numbers, the counts and the open exchanges are what is known.
+-- The numbers, the counts and the open exchanges are those of the knowledge.
 pub record RecallsRest (me : Member) (k : Knowledge) (l : Ledger) : Type 0 where
   pub party : l.me ≡ me.party
   pub cap : l.cap ≡ me.session.cap

@@ -1,4 +1,4 @@
--- A datagram is heard, and then the terms are set with its part.
+-- A datagram is heard, and then its part of the terms is set.
 use Rattle.std.proofs.Common.{◌≡◌, ◌∙◌, ℕ, Bool, true, List, Option, Some, None, refl, sym, ap, subst, inl, inr}
 use Rattle.std.specs.Prelude.{option_map, IfSome, if◌then◌else◌}
 use Rattle.std.proofs.lemmas.Bool.{cases_Bool}
@@ -11,11 +11,11 @@ use Rattle.bar_window.proofs.Exchanges.{same_exchange-is}
 use Rattle.bar_wire.specs.declared.kind.Kind.{Kind}
 use Rattle.bar_ledger.specs.declared.entry.Entry.{Entry}
 use Rattle.bar_ledger.specs.declared.ledger.Ledger.{Ledger}
-use Rattle.bar_ledger.specs.Kept.{Kept, IsKeptFor, with_bytes, with_new}
-use Rattle.bar_ledger.specs.Memory.{HasSame, IsAsBefore, find_in, asked_in, opens_in}
-use Rattle.bar_exchange.specs.Parts.{ChangesKept, with_heard_part}
+use Rattle.bar_ledger.specs.Code.Kept.{Kept, IsKeptFor, with_bytes, with_new}
+use Rattle.bar_ledger.specs.Code.Memory.{HasSame, IsAsBefore, find_in, asked_in, opens_in}
+use Rattle.bar_exchange.specs.Code.Parts.{ChangesKept, with_heard_part}
 
--- The entry that is found is set with other terms.
+-- The entry that is found gets other terms.
 pub record SetsTerms (old new : Ledger) (x : Exchange) (e set : Entry) : Type 0 where
   pub entry : Some e ≡ option_map (λ (k : Kept). k.entry) (find_in old x)
   pub own : IfSome (find_in old x) (IsKeptFor x old.shape.life old.round)

@@ -1,4 +1,4 @@
--- What is kept of an exchange with a part of its terms.
+-- The kept state of an exchange with a part of its terms.
 use Rattle.std.specs.Prelude.{nat_le, option_copied, option_map, if◌then◌else◌}
 use Rattle.std.specs.Borrow.{Bor}
 use Rattle.std.proofs.lemmas.Bool.{leb-true}
@@ -10,18 +10,18 @@ use Rattle.bar_window.specs.declared.terms.Terms.{Terms}
 use Rattle.bar_window.specs.Exchange.{same_role}
 use Rattle.bar_window.specs.Terms.{plain_terms}
 use Rattle.bar_wire.specs.declared.kind.Kind.{Kind}
-use Rattle.bar_wire.specs.Views.{AreTermWindows}
+use Rattle.bar_wire.specs.Code.Views.{AreTermWindows}
 use Rattle.bar_rules.specs.Member.{Member}
 use Rattle.bar_rules.specs.Peer.Agreement.{IsRecent}
 use Rattle.bar_rules.specs.Peer.Knowledge.{Knowledge, this_round}
 use Rattle.bar_ledger.specs.declared.entry.Entry.{Entry}
 use Rattle.bar_ledger.specs.declared.ledger.Ledger.{Ledger}
-use Rattle.bar_ledger.specs.Kept.{Kept, with_bytes}
-use Rattle.bar_ledger.specs.Lookups.{is_said, said_by}
-use Rattle.bar_ledger.specs.Memory.{MayHear, find_in}
-use Rattle.bar_ledger.specs.Recalls.{IsKeptBy, kind_of_terms}
+use Rattle.bar_ledger.specs.Code.Kept.{Kept, with_bytes}
+use Rattle.bar_ledger.specs.Code.Lookups.{is_said, said_by}
+use Rattle.bar_ledger.specs.Code.Memory.{MayHear, find_in}
+use Rattle.bar_ledger.specs.Code.Recalls.{IsKeptBy, kind_of_terms}
 use Rattle.bar_ledger.proofs.Changes.{bytes-entry}
-use Rattle.bar_exchange.specs.Parts.{with_heard_part}
+use Rattle.bar_exchange.specs.Code.Parts.{with_heard_part}
 use Rattle.bar_exchange.proofs.Hearing.{keeps_bytes}
 use Rattle.bar_exchange.proofs.Rooms.{KeepsBytes, terms_heard, terms_said}
 
@@ -31,7 +31,7 @@ keeps_part l x kind bytes terms full kept may found =
     let k = keeps_bytes l x kind bytes kept may found in
     record { role = k.role; heard = λ other. terms_heard terms full (with_bytes kind bytes kept) other ∙ k.heard other }
 
--- what is said stays
+-- what was said is unchanged
 pub part_said : (kind : Kind) (bytes : List ℕ) (terms : Terms) (full : Bool) (kept : Kept) (other : Kind) (role : Role)
     → said_by other role (with_heard_part kind bytes terms full kept) ≡ said_by other role kept
 part_said kind bytes terms full kept other role =
@@ -56,18 +56,18 @@ part_by me x kind bytes terms full kept by form windows =
 pub entry_is : (l : Ledger) (x : Exchange) (e : Entry) (kept : Kept) → Some e ≡ option_map (λ (k : Kept). k.entry) (find_in l x) → find_in l x ≡ Some kept → kept.entry ≡ e
 entry_is l x e kept is found = same_Some _ _ (sym (is ∙ ap (option_map (λ (k : Kept). k.entry)) found))
 
--- an exchange that is kept has one
+-- a kept exchange has an entry
 pub no_entry : (r : Option (Bor Entry)) (o : Option Kept) (kept : Kept) → option_copied r ≡ option_map (λ (k : Kept). k.entry) o → ((b : Bor Entry) → r ≡ Some b → ⊥) → o ≡ Some kept → ⊥
 no_entry None o kept e none found = none-some kept.entry (e ∙ ap (option_map (λ (k : Kept). k.entry)) found)
 no_entry (Some b) o kept e none found = none b refl
 
--- ---- what parts are known
+-- ---- the known parts
 
--- none of the other kind of exchange, whether it is known or not
+-- the result is `None` whether a part of the other kind of exchange is known or not
 pub none_either : {A : Type 0} (b : Bool) → ◌≡◌ {A = Option A} (if b then None else None) None
 none_either true = refl
 none_either false = refl
 
--- what may come two rounds late is of an exchange that may still be asked about
+-- if a message may come two rounds late, its exchange may still be asked about
 pub is_near : (me : Member) (k : Knowledge) (x : Exchange) → 2 ≤ me.session.shape.life → nat_le (this_round k) (x.round + 2) ≡ true → IsRecent me k x.round
 is_near me k x life e = let by : this_round k ≤ x.round + 2 = leb-true _ _ e in omega (arith, by, life)

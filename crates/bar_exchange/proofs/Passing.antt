@@ -1,4 +1,4 @@
--- What is heard in several exchanges and passes a test, and where nothing does.
+-- Heard datagrams of several exchanges that pass a test, and the case that none does.
 use Rattle.std.proofs.Common.{◌≡◌, ◌∙◌, ◌||◌, ◌&&◌, ◌==◌, ℕ, suc, ◌+◌, Bool, true, false, cond, List, [], ◌∷◌, ◌++◌, Option, Some, None, refl, sym, ap, subst, inl, inr}
 use Rattle.std.specs.Prelude.{option_and_then}
 use Rattle.std.specs.Option.{option_or, option_map_or}
@@ -18,12 +18,12 @@ use Rattle.bar_rules.specs.Peer.Evidence.{between, shared_from}
 use Rattle.bar_rules.specs.Peer.Exchanges.{opening_kind}
 use Rattle.bar_rules.proofs.Shared.{AreParties, IsShared}
 use Rattle.bar_ledger.specs.declared.ledger.Ledger.{Ledger}
-use Rattle.bar_ledger.specs.Hearing.{is_opening}
-use Rattle.bar_ledger.specs.Kept.{Kept, heard_of, is_for}
-use Rattle.bar_ledger.specs.Lookups.{heard_by}
-use Rattle.bar_ledger.specs.Memory.{entries_in, find_in}
-use Rattle.bar_ledger.specs.Naming.{names, any_names, is_beside, shares_leaf}
-use Rattle.bar_exchange.specs.Naming.{if_passing, passing_as, passing_in, passing_beside, passing_among, side_beside}
+use Rattle.bar_ledger.specs.Code.Hearing.{is_opening}
+use Rattle.bar_ledger.specs.Code.Kept.{Kept, heard_of, is_for}
+use Rattle.bar_ledger.specs.Code.Lookups.{heard_by}
+use Rattle.bar_ledger.specs.Code.Memory.{entries_in, find_in}
+use Rattle.bar_ledger.specs.Code.Naming.{names, any_names, is_beside, shares_leaf}
+use Rattle.bar_exchange.specs.Code.Naming.{if_passing, passing_as, passing_in, passing_beside, passing_among, side_beside}
 
 -- ---- lists of exchanges
 
@@ -31,7 +31,7 @@ or_assoc : (a b c : Option (List ℕ)) → option_or (option_or a b) c ≡ optio
 or_assoc None b c = refl
 or_assoc (Some x) b c = refl
 
--- what passes among two lists is the first of one, or of the other
+-- a search in two concatenated lists is a search in the first one, then in the second
 pub passing_both : (test : List ℕ → Bool) (l : Ledger) (x : Exchange) (xs ys : List Exchange)
     → passing_among test l x (xs ++ ys) ≡ option_or (passing_among test l x xs) (passing_among test l x ys)
 passing_both test l x [] ys = refl
@@ -39,16 +39,16 @@ passing_both test l x (y ∷ xs) ys =
     ap (λ o. option_or (passing_beside test l x y) o) (passing_both test l x xs ys)
     ∙ sym (or_assoc (passing_beside test l x y) (passing_among test l x xs) (passing_among test l x ys))
 
--- of one round more
+-- the same with one more round
 pub passing_round : (test : List ℕ → Bool) (l : Ledger) (x : Exchange) (p q round count : ℕ)
     → passing_among test l x (shared_from p q round (suc count))
     ≡ option_or (passing_among test l x (between p q round Balanced ++ between p q round Push)) (passing_among test l x (shared_from p q (round + 1) count))
 passing_round test l x p q round count =
     passing_both test l x (between p q round Balanced ++ between p q round Push) (shared_from p q (round + 1) count)
 
--- ---- where nothing passes
+-- ---- if none passes
 
--- The three do not pass.
+-- All three tests fail.
 abbrev AllFail : Bool → Bool → Bool → Type 0
 AllFail a b c = (a ≡ false) × ((b ≡ false) × (c ≡ false))
 
@@ -57,7 +57,7 @@ none_of false false c e = (refl, (refl, e))
 none_of false true c e = absurd (false≢true (sym e))
 none_of true b c e = absurd (false≢true (sym e))
 
--- what is found in a list of which none shares
+-- an element found in a list of which no element passes the test doesn't pass it either
 found_apart : (p test : Kept → Bool) (ks : List Kept) (k : Kept) → find p ks ≡ Some k → list_any test ks ≡ false → (p k ≡ true) × (test k ≡ false)
 found_apart p test [] k e none = absurd (cc)
 found_apart p test (j ∷ ks) k e none =
@@ -73,7 +73,7 @@ none_passing : (test : List ℕ → Bool) (o : Option (List ℕ)) → option_map
 none_passing test None e = refl
 none_passing test (Some bytes) e = rw e refl
 
--- of a side
+-- no datagram of a side passes
 none_by : (test : List ℕ → Bool) (kind : Kind) (role : Role) (k : Kept) → option_map_or test (heard_of kind k) false ≡ false
     → option_and_then (if_passing test) (heard_by kind role k) ≡ None
 none_by test kind role k e = go (same_role role (other_role k.entry.role))
@@ -106,7 +106,7 @@ module _ (named : List ℕ → ℕ) (len leaf : ℕ) (l : Ledger) (x : Exchange)
   abbrev test : List ℕ → Bool
   test = names named len leaf
 
-  -- of another exchange with the party none names the leaf
+  -- no signature in another exchange with the party names the leaf
   unnamed_kept : (y : Exchange) (k : Kept) → AreParties l.me party y → same_exchange x y ≡ false → find_in l y ≡ Some k → any_names named len leaf k ≡ false
   unnamed_kept y k parties other e =
       let both = found_apart (is_for y) (shares_leaf named len leaf x party) (entries_in l) k e none in

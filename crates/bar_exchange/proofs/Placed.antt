@@ -1,19 +1,19 @@
--- The place of a datagram, by the part of an exchange that its body names.
+-- The place of a datagram, from the part of an exchange that its body names.
 use Rattle.std.proofs.Common.{◌≡◌, ◌∙◌, ℕ, Some, sym, ap, option_map}
 use Rattle.std.proofs.lemmas.Option.{same_Some}
 use Rattle.bar_window.specs.declared.exchange.Role.{Role}
 use Rattle.bar_window.specs.declared.exchange.XKind.{XKind}
 use Rattle.bar_wire.specs.Datagram.{Body, exchange_by, part_of, place_of}
 use Rattle.bar_wire.specs.Datagram as wire
-use Rattle.bar_wire.specs.Sides.{place_in}
+use Rattle.bar_wire.specs.Code.Sides.{place_in}
 use Rattle.bar_wire.specs.declared.place.Place.{Place}
 use Rattle.bar_wire.proofs.ExchangeBy.{kind-by}
 
--- a body from this party to that one stands at a place
+-- a body from this party to that one has this place
 abbrev pub BodyStands : ℕ → ℕ → Body → Place → Type 0
 BodyStands from to b p = Some (place_in p) ≡ place_of (record { from = from; to = to; body = b })
 
--- the place of a part, as the code has it
+-- the place of a part, as computed by the code
 abbrev pub place_by : ℕ → ℕ → ℕ × XKind × Role → Place
 place_by from to part = record { x = exchange_by part.0 part.1 part.2 from to; role = part.2 }
 
@@ -26,7 +26,7 @@ stands from to b p part at told =
 pub kind_at : (from to : ℕ) (b : Body) (p : Place) (part : ℕ × XKind × Role) → BodyStands from to b p → part_of b ≡ Some part → p.x.kind ≡ part.1
 kind_at from to b p part at told = ap (λ (p : Place). p.x.kind) (stands from to b p part at told) ∙ kind-by part.0 part.1 part.2 from to
 
--- The place is that of a part that names this round, kind and side, where its exchange is of a known kind.
+-- The place is that of a part that names this round, kind and side, and the exchange is of the known kind.
 pub record IsPlacedBy (p : Place) (known : XKind) (from to round : ℕ) (kind : XKind) (role : Role) : Type 0 where
   pub kind_is : kind ≡ known
   pub role_is : p.role ≡ role

@@ -25,14 +25,14 @@ use Rattle.bar_rules.specs.Peer.Knowledge.{Knowledge, this_round, learned, with_
 use Rattle.bar_rules.specs.Peer.Log.{has_kind_and_round}
 use Rattle.bar_rules.specs.Peer.Terms.{body_on, terms_by, trade_terms, offer_terms}
 use Rattle.bar_ledger.specs.declared.entry.Entry.{Entry}
-use Rattle.bar_ledger.specs.Asking.{asked_as}
-use Rattle.bar_ledger.specs.Hearing.{same_datagram, hears}
-use Rattle.bar_ledger.specs.Kept.{Kept, heard_of, with_bytes, newly}
-use Rattle.bar_ledger.specs.Lookups.{is_said, heard_by, offer_of}
-use Rattle.bar_ledger.specs.Memory.{next_seat}
-use Rattle.bar_ledger.specs.Recalls.{IsKeptBy}
-use Rattle.bar_exchange.specs.Keeping.{IsBegunWith}
-use Rattle.bar_exchange.specs.Parts.{asked_entry}
+use Rattle.bar_ledger.specs.Code.Asking.{asked_as}
+use Rattle.bar_ledger.specs.Code.Hearing.{same_datagram, hears}
+use Rattle.bar_ledger.specs.Code.Kept.{Kept, heard_of, with_bytes, newly}
+use Rattle.bar_ledger.specs.Code.Lookups.{is_said, heard_by, offer_of}
+use Rattle.bar_ledger.specs.Code.Memory.{next_seat}
+use Rattle.bar_ledger.specs.Code.Recalls.{IsKeptBy}
+use Rattle.bar_exchange.specs.Code.Keeping.{IsBegunWith}
+use Rattle.bar_exchange.specs.Code.Parts.{asked_entry}
 use Rattle.bar_exchange.proofs.Admitted.{IsAdmittedOf}
 use Rattle.bar_exchange.proofs.Hearing.{HearsFirst, hears_first}
 use Rattle.bar_exchange.proofs.KindCases.{each_kind, same_itself}
@@ -43,9 +43,9 @@ use Rattle.bar_exchange.proofs.Same.{own_body, other_body}
 use Rattle.bar_exchange.proofs.Begun.{no_offer, no_push}
 use Rattle.bar_bytes.proofs.Options.{or-untold}
 
--- ---- what its row tells
+-- ---- what follows from its row
 
--- It asks for the exchange in time, while a seat is free, and takes one.
+-- The datagram asks for the exchange in time, while a seat is free, and takes one.
 pub record AsksFor (me : Member) (k : Knowledge) (d : Datagram) (b : Body) (x : Exchange) : Type 0 where
   pub free : nat_lt (k.asked x.kind x.round) seats_a_round ≡ true
   pub in_time : nat_le (this_round k) (x.round + 1) ≡ true
@@ -86,7 +86,7 @@ asks_for me k d from to (Key g) x e at row = absurd (no_request _ x.kind refl re
 asks_for me k d from to (Evidence ds) x e at row = absurd (no_request _ x.kind refl refl e)
 asks_for me k d from to (Evict r ps) x e at row = absurd (no_request _ x.kind refl refl e)
 
--- ---- what is counted
+-- ---- counts
 
 same_requests : (a b : XKind) → same_datagram (request_kind a) (request_kind b) ≡ same_kind a b
 same_requests Balanced Balanced = refl
@@ -94,7 +94,7 @@ same_requests Balanced Push = refl
 same_requests Push Balanced = refl
 same_requests Push Push = refl
 
--- one request more of its kind and round
+-- one more request of its kind and round
 pub one_asked : (d : Datagram) (x : Exchange) (seat : ℕ) (terms : WindowTerms) → kind_of d.message.body ≡ request_kind x.kind → round_of d.message.body ≡ x.round → (kind : XKind) (round : ℕ)
     → asked_as kind round (Some (newly (asked_entry x seat terms))) ≡ (if has_kind_and_round (request_kind kind) round d.message then 1 else 0)
 one_asked d x seat terms is at kind round =
@@ -105,7 +105,7 @@ one_asked d x seat terms is at kind round =
     zero_more : (n : ℕ) → 0 + n ≡ n
     zero_more n = omega arith
 
--- the seat is how many were asked
+-- the seat is the number of earlier requests
 pub seat_is : (asked seat : ℕ) → Some seat ≡ next_seat asked → asked ≡ seat
 seat_is asked seat e = go (nat_lt asked seats_a_round) e
   where
@@ -116,7 +116,7 @@ seat_is asked seat e = go (nat_lt asked seats_a_round) e
 pub seat_free : (asked : ℕ) → nat_lt asked seats_a_round ≡ true → next_seat asked ≡ None → ⊥
 seat_free asked free e = none-some asked (sym e ∙ ap (λ b. then_some b asked) free)
 
--- ---- what is kept
+-- ---- the kept state
 
 first_room : (kind : XKind) (bytes : List ℕ) (k : Kept) → with_bytes (request_kind kind) bytes k ≡ record k { first = Some bytes }
 first_room Balanced bytes k = refl
@@ -140,7 +140,7 @@ none_by e kind role = ap (λ o. if same_role role (other_role e.role) then o els
     both true = refl
     both false = refl
 
--- what is known and kept before and after a request that begins an exchange
+-- The request begins the exchange, with the kept state before and after it.
 pub record Begins (me : Member) (k : Knowledge) (d : Datagram) (x : Exchange) (seat : ℕ) (terms : WindowTerms) (bytes : List ℕ) : Type 0 where
   pub of : IsAdmittedOf me k d x Initiator
   pub begun : IsBegunWith me d x terms

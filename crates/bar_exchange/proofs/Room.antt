@@ -1,4 +1,4 @@
--- What is kept was asked for, and there is room for one exchange more.
+-- Kept exchanges were asked for, so there is room for one more exchange.
 use Rattle.std.proofs.Common.{◌≡◌, ◌+◌, ◌*◌, Bool, true, length, is_some, sym, ap, ◌∙◌}
 use Rattle.std.specs.Prelude.{nat_lt}
 use Rattle.std.specs.List.{IsDistinct, list_all}
@@ -12,19 +12,19 @@ use Rattle.bar_rules.specs.Member.{Member}
 use Rattle.bar_rules.specs.Peer.Exchanges.{role_of, request_kind}
 use Rattle.bar_rules.specs.Peer.Knowledge.{Knowledge}
 use Rattle.bar_ledger.specs.declared.ledger.Ledger.{Ledger}
-use Rattle.bar_ledger.specs.Memory.{find_in, kept_in}
-use Rattle.bar_ledger.specs.Recalls.{Recalls}
-use Rattle.bar_exchange.specs.Keeping.{IsSaidNow, HasRoomLeft, is_asked_by}
+use Rattle.bar_ledger.specs.Code.Memory.{find_in, kept_in}
+use Rattle.bar_ledger.specs.Code.Recalls.{Recalls}
+use Rattle.bar_exchange.specs.Code.Keeping.{IsSaidNow, HasRoomLeft, is_asked_by}
 use Rattle.bar_exchange.proofs.RoomLeft.{remembered, room_left}
 
--- where there is room left by what is known, there is room
+-- if the knowledge leaves room, the ledger has room
 pub has_room : (me : Member) (k : Knowledge) (l : Ledger) → Recalls me k l → HasRoomLeft me k → IsDistinct same_exchange (kept_in l)
     → ((test : Exchange → Bool) → ((x : Exchange) → is_some (find_in l x) ≡ true → test x ≡ true) → list_all test (kept_in l) ≡ true)
     → nat_lt (length (kept_in l)) (exchanges_a_round * (l.shape.life + 2)) ≡ true
 has_room me k l h left distinct each =
     lt-ltb _ _ (room_left me k l h left distinct each)
 
--- what this peer asks for now isn't kept
+-- an exchange that this peer asks for now isn't kept yet
 pub not_kept : (me : Member) (k : Knowledge) (d : Datagram) (x : Exchange) (l : Ledger) → Recalls me k l → IsSaidNow me k d (request_kind x.kind) x
     → role_of me x ≡ Initiator → is_some (find_in l x) ≡ true → ⊥
 not_kept me k d x l h s own some =

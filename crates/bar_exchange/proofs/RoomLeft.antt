@@ -1,4 +1,4 @@
--- There is room in a ledger while fewer exchanges are remembered than it has slots.
+-- A ledger has room as long as fewer exchanges are remembered than it has slots.
 use Rattle.std.proofs.Common.{◌≡◌, ◌∙◌, ◌+◌, ◌*◌, ◌<◌, Bool, true, ◌&&◌, is_some, length, sym, ap, subst}
 use Rattle.std.specs.List.{IsDistinct, list_all}
 use Rattle.std.proofs.lemmas.Bool.{and_from, le-leb}
@@ -16,19 +16,19 @@ use Rattle.bar_rules.specs.Peer.Exchanges.{role_of, request_kind, opening_kind}
 use Rattle.bar_rules.specs.Peer.Knowledge.{Knowledge}
 use Rattle.bar_ledger.specs.declared.entry.Entry.{Entry}
 use Rattle.bar_ledger.specs.declared.ledger.Ledger.{Ledger}
-use Rattle.bar_ledger.specs.Hearing.{same_datagram}
-use Rattle.bar_ledger.specs.Kept.{Kept}
-use Rattle.bar_ledger.specs.Lookups.{is_said, seat_by}
-use Rattle.bar_ledger.specs.Memory.{find_in, kept_in}
-use Rattle.bar_ledger.specs.Recalls.{Recalls}
-use Rattle.bar_exchange.specs.Keeping.{HasRoomLeft, is_remembered, is_asked_by}
+use Rattle.bar_ledger.specs.Code.Hearing.{same_datagram}
+use Rattle.bar_ledger.specs.Code.Kept.{Kept}
+use Rattle.bar_ledger.specs.Code.Lookups.{is_said, seat_by}
+use Rattle.bar_ledger.specs.Code.Memory.{find_in, kept_in}
+use Rattle.bar_ledger.specs.Code.Recalls.{Recalls}
+use Rattle.bar_exchange.specs.Code.Keeping.{HasRoomLeft, is_remembered, is_asked_by}
 use Rattle.bar_exchange.proofs.KeptChanges.{IsThere, there}
 
 said_first : (kind : XKind) (e : Entry) → e.x.kind ≡ kind → e.role ≡ Initiator → e.first_said ≡ true → is_said (request_kind kind) e ≡ true
 said_first Balanced e kind role first = λ i. same_datagram kinds.Request (opening_kind (kind i) (role i)) && first i
 said_first Push e kind role first = λ i. same_datagram kinds.Query (opening_kind (kind i) (role i)) && first i
 
--- what is kept was asked for
+-- a kept exchange was asked for
 asked_for : (me : Member) (k : Knowledge) (l : Ledger) (x : Exchange) (kept : Kept) → IsThere me k l x kept → (role : Role) → kept.entry.role ≡ role → is_asked_by role k x ≡ true
 asked_for me k l x kept at Initiator role =
     at.one.said (request_kind x.kind) Initiator

@@ -1,4 +1,4 @@
--- What is heard of an exchange once one datagram more is kept.
+-- What was heard in an exchange, after one more datagram is kept.
 use Rattle.std.proofs.Common.{◌≡◌, ◌∙◌, ℕ, Bool, true, false, List, Option, Some, None, refl, sym, ap, subst}
 use Rattle.std.specs.Prelude.{if◌then◌else◌}
 use Rattle.std.specs.Cmp.{both_ways}
@@ -8,13 +8,13 @@ use Rattle.bar_window.specs.declared.terms.Terms.{Terms}
 use Rattle.bar_wire.specs.declared.kind.Kind.{Kind}
 use Rattle.bar_wire.specs.declared.kind.Kind.TheVariants as kinds
 use Rattle.bar_ledger.specs.declared.entry.Entry.{Entry}
-use Rattle.bar_ledger.specs.Hearing.{same_datagram, is_opening, hears}
-use Rattle.bar_ledger.specs.Kept.{Kept, heard_of, with_bytes, newly}
-use Rattle.bar_ledger.specs.Lookups.{is_said}
-use Rattle.bar_exchange.specs.Parts.{with_terms}
+use Rattle.bar_ledger.specs.Code.Hearing.{same_datagram, is_opening, hears}
+use Rattle.bar_ledger.specs.Code.Kept.{Kept, heard_of, with_bytes, newly}
+use Rattle.bar_ledger.specs.Code.Lookups.{is_said}
+use Rattle.bar_exchange.specs.Code.Parts.{with_terms}
 use Rattle.bar_exchange.proofs.KindCases.{each_kind, one_kind, same_itself}
 
--- One datagram more is kept, of the same side.
+-- One more datagram is kept, on the same side.
 pub record KeepsBytes (bytes_kind : Kind) (bytes : List ℕ) (old new : Kept) : Type 0 where
   pub role : new.entry.role ≡ old.entry.role
   pub heard : (kind : Kind) → heard_of kind new ≡ (if same_datagram bytes_kind kind then Some bytes else heard_of kind old)
@@ -22,7 +22,7 @@ pub record KeepsBytes (bytes_kind : Kind) (bytes : List ℕ) (old new : Kept) : 
 flips : (a b : Kind) → same_datagram a b ≡ true → same_datagram b a ≡ true
 flips a b e = subst (λ z. same_datagram z a ≡ true) (one_kind a b e) (same_itself a)
 
--- the first signed datagram comes into its room
+-- the first signed datagram is stored in its room
 first_more : (a kind : Kind) (xkind : XKind) (role : Role) (bytes : List ℕ) (first : Option (List ℕ)) → is_opening a xkind role ≡ true
     → (if is_opening kind xkind role then Some bytes else None) ≡ (if same_datagram a kind then Some bytes else (if is_opening kind xkind role then first else None))
 first_more a kind xkind role bytes first e =
@@ -61,14 +61,14 @@ bytes_heard kinds.Reply bytes k e = first_bytes kinds.Reply bytes k e refl refl 
 bytes_heard kinds.Evidence bytes k e = first_bytes kinds.Evidence bytes k e refl refl refl refl
 bytes_heard kinds.Evict bytes k e = first_bytes kinds.Evict bytes k e refl refl refl refl
 
--- terms leave what is heard and said
+-- setting the terms doesn't change what was heard and said
 pub terms_heard : (terms : Terms) (full : Bool) (k : Kept) (kind : Kind) → heard_of kind (with_terms terms full k) ≡ heard_of kind k
 terms_heard terms full k = each_kind (λ kind. heard_of kind (with_terms terms full k) ≡ heard_of kind k) refl refl refl refl refl refl refl refl refl refl refl refl
 
 pub terms_said : (terms : Terms) (full : Bool) (e : Entry) (kind : Kind) → is_said kind (record e { terms = terms; complete = full }) ≡ is_said kind e
 terms_said terms full e = each_kind (λ kind. is_said kind (record e { terms = terms; complete = full }) ≡ is_said kind e) refl refl refl refl refl refl refl refl refl refl refl refl
 
--- nothing is heard of a new exchange
+-- nothing was heard in a new exchange
 pub none_heard : (e : Entry) (kind : Kind) → heard_of kind (newly e) ≡ None
 none_heard e = each_kind (λ kind. heard_of kind (newly e) ≡ None) (nothing _) (nothing _) (nothing _) (nothing _) refl (nothing _) (nothing _) refl refl refl (nothing _) (nothing _)
   where

@@ -1,4 +1,4 @@
--- What a message that is said adds to what is known of one exchange.
+-- How a message that is said changes the knowledge of one exchange.
 use Rattle.std.proofs.Common.{◌≡◌, Bool, true, false, ◌&&◌, ◌||◌, ◌==◌, Some, None, refl, sym, ap, ◌∙◌, ℕ}
 use Rattle.std.specs.Prelude.{option_map, if◌then◌else◌}
 use Rattle.std.specs.Bool.{then_some}
@@ -19,14 +19,14 @@ use Rattle.bar_rules.specs.Member.{Member}
 use Rattle.bar_rules.specs.Peer.Exchanges.{role_of, committed}
 use Rattle.bar_rules.specs.Peer.Knowledge.{Knowledge, with_said, has_said_of}
 use Rattle.bar_rules.specs.Peer.Terms.{body_on}
-use Rattle.bar_exchange.specs.Keeping.{IsSaidNow}
+use Rattle.bar_exchange.specs.Code.Keeping.{IsSaidNow}
 use Rattle.bar_wire.proofs.ExchangeBy.{kind-by}
 use Rattle.bar_exchange.proofs.Same.{SameOne}
 use Rattle.bar_bytes.proofs.Options.{or-untold, some-or}
 
--- ---- of which exchange a message is
+-- ---- the exchange of a message
 
--- it is of its own kind, exchange and side
+-- the message is of its own kind, exchange and side
 pub said_is_of : (me : Member) (k : Knowledge) (d : Datagram) (kind : Kind) (x : Exchange) → IsSaidNow me k d kind x → (other : Kind) (y : Exchange) (role : Role)
     → is_of other y role d.message ≡ ((code_of kind == code_of other) && (same_exchange x y && same_role (role_of me x) role))
 said_is_of me k d kind x h other y role = λ i. (code_of (h.kind_is i) == code_of other) && option_map_or (is_place y role) (h.place_is i) false
@@ -39,7 +39,7 @@ not_of_kind : (me : Member) (k : Knowledge) (d : Datagram) (kind : Kind) (x : Ex
     → (code_of kind == code_of other) ≡ false → is_of other y role d.message ≡ false
 not_of_kind me k d kind x h other y role f = said_is_of me k d kind x h other y role ∙ and_left _ _ f
 
--- of another exchange nothing is known anew
+-- the knowledge of other exchanges is unchanged
 pub other_same : (me : Member) (k : Knowledge) (d : Datagram) (kind : Kind) (x y : Exchange) → IsSaidNow me k d kind x → same_exchange x y ≡ false
     → SameOne k (with_said me d k) y
 other_same me k d kind x y h f = record {
@@ -49,7 +49,7 @@ other_same me k d kind x y h f = record {
   revealed = or-untold (k.revealed y) _ (committed me k.block y) (not_of_other me k d kind x h kinds.Request y Initiator f);
 }
 
--- nor of another kind
+-- the messages of other kinds are unchanged
 pub kind_same : (me : Member) (k : Knowledge) (d : Datagram) (kind : Kind) (x : Exchange) → IsSaidNow me k d kind x → (other : Kind) (role : Role)
     → (code_of kind == code_of other) ≡ false → (with_said me d k).said other x role ≡ k.said other x role
 kind_same me k d kind x h other role f = or-untold (k.said other x role) _ d (not_of_kind me k d kind x h other x role f)
@@ -58,7 +58,7 @@ pub revealed_same : (me : Member) (k : Knowledge) (d : Datagram) (kind : Kind) (
     → (code_of kind == code_of kinds.Request) ≡ false → (with_said me d k).revealed x ≡ k.revealed x
 revealed_same me k d kind x h f = or-untold (k.revealed x) _ (committed me k.block x) (not_of_kind me k d kind x h kinds.Request x Initiator f)
 
--- ---- what is said of the exchange itself
+-- ---- what was said in the exchange itself
 
 mark_law : (role own : Role) (s c : Bool) → ((same_role role own && s) || (c && same_role own role)) ≡ (same_role role own && (s || c))
 mark_law Initiator Initiator s true = refl
@@ -70,7 +70,7 @@ mark_law Responder Initiator s false = refl
 mark_law Responder Responder s true = refl
 mark_law Responder Responder s false = refl
 
--- the marks of one side, with that of the kind
+-- the marks of one side, with the one of this kind added
 pub marks_more : (me : Member) (k : Knowledge) (d : Datagram) (kind : Kind) (x : Exchange) → IsSaidNow me k d kind x → (old new : Kind → Bool)
     → ((other : Kind) (role : Role) → has_said_of k other x role ≡ (same_role role (role_of me x) && old other))
     → ((other : Kind) → new other ≡ (old other || (code_of kind == code_of other)))
@@ -82,7 +82,7 @@ marks_more me k d kind x h old new was is other role =
     ∙ mark_law role (role_of me x) (old other) (code_of kind == code_of other)
     ∙ ap (λ b. same_role role (role_of me x) && b) (sym (is other))
 
--- it is what was said of its kind
+-- the message is the one that was said of its kind
 pub said_first : (me : Member) (k : Knowledge) (d : Datagram) (kind : Kind) (x : Exchange) → IsSaidNow me k d kind x → (role : Role) → role_of me x ≡ role
     → (code_of kind == code_of kind) ≡ true → (with_said me d k).said kind x role ≡ Some d
 said_first me k d kind x h role own t =
@@ -93,22 +93,22 @@ said_first me k d kind x h role own t =
 
 -- ---- bodies
 
--- of another kind
+-- the bodies of other kinds are unchanged
 pub body_same : (me : Member) (k : Knowledge) (d : Datagram) (kind : Kind) (x : Exchange) → IsSaidNow me k d kind x → (other : Kind) (role : Role)
     → (code_of kind == code_of other) ≡ false → body_on me (with_said me d k) other x role ≡ body_on me k other x role
 body_same me k d kind x s other role f =
     λ i. option_map (λ (d : Datagram). d.message.body) (if same_role (role_of me x) role then kind_same me k d kind x s other role f i else k.heard other x role)
 
--- and of its own
+-- the body of its own kind is that of the message
 pub body_first : (me : Member) (k : Knowledge) (d : Datagram) (kind : Kind) (x : Exchange) → IsSaidNow me k d kind x → (role : Role) → role_of me x ≡ role
     → (code_of kind == code_of kind) ≡ true → body_on me (with_said me d k) kind x role ≡ Some d.message.body
 body_first me k d kind x s role own t =
     (λ i. option_map (λ (d : Datagram). d.message.body) (if same_role (own i) role then (with_said me d k).said kind x role else k.heard kind x role))
     ∙ (λ i. option_map (λ (d : Datagram). d.message.body) (if same_role_refl role i then said_first me k d kind x s role own t i else k.heard kind x role))
 
--- ---- where it stands
+-- ---- its place
 
--- the kind of exchange and the side are those that its body speaks of
+-- the kind of exchange and the side are those that its body names
 pub placed : (m : Message) (part : ℕ × XKind × Role) (x : Exchange) (role : Role) → part_of m.body ≡ Some part
     → place_of m ≡ Some (record { exchange = x; role = role }) → (x.kind ≡ part.1) × (role ≡ part.2)
 placed m part x role speaks stands =

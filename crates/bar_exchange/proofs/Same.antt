@@ -1,4 +1,4 @@
--- What stays of an exchange of which as much is known.
+-- What is unchanged of an exchange if the knowledge of it is.
 use Rattle.std.proofs.Common.{◌≡◌, ◌∙◌, false, Option, refl, ap}
 use Rattle.std.specs.Prelude.{option_map, option_and_then, is_some, if◌then◌else◌}
 use Rattle.bar_window.specs.declared.exchange.Exchange.{Exchange}
@@ -17,16 +17,16 @@ use Rattle.bar_rules.specs.Values.{datagram_bytes}
 use Rattle.bar_rules.specs.Peer.Exchanges.{role_of}
 use Rattle.bar_rules.specs.Peer.Knowledge.{Knowledge}
 use Rattle.bar_rules.specs.Peer.Terms.{body_on, terms_by, trade_terms, offer_terms}
-use Rattle.bar_ledger.specs.Kept.{Kept}
+use Rattle.bar_ledger.specs.Code.Kept.{Kept}
 use Rattle.bar_exchange.proofs.One.{RecallsOne}
 
--- what both sides said and heard of a kind is the same
+-- if the same was said and heard of a kind, the body is the same
 pub body_same : (me : Member) (k new : Knowledge) (kind : Kind) (x : Exchange) (role : Role) → new.said kind x role ≡ k.said kind x role → new.heard kind x role ≡ k.heard kind x role
     → body_on me new kind x role ≡ body_on me k kind x role
 body_same me k new kind x role said heard =
     λ i. option_map (λ (d : Datagram). d.message.body) (if same_role (role_of me x) role then said i else heard i)
 
--- the own side said it, and the other side's was heard
+-- on its own side a member knows the body that it said, and on the other side the one that it heard
 pub own_body : (me : Member) (k : Knowledge) (kind : Kind) (x : Exchange) (role : Role) → role_of me x ≡ role → body_on me k kind x role ≡ option_map (λ (d : Datagram). d.message.body) (k.said kind x role)
 own_body me k kind x role mine =
     λ i. option_map (λ (d : Datagram). d.message.body) (if (ap (λ r. same_role r role) mine ∙ same_role_refl role) i then k.said kind x role else k.heard kind x role)
@@ -39,7 +39,7 @@ other_body me k kind x role mine =
     apart Initiator = refl
     apart Responder = refl
 
--- The same is known of the exchange.
+-- The knowledge of the exchange is the same.
 pub record SameOne (k new : Knowledge) (x : Exchange) : Type 0 where
   pub heard : (kind : Kind) (role : Role) → new.heard kind x role ≡ k.heard kind x role
   pub said : (kind : Kind) (role : Role) → new.said kind x role ≡ k.said kind x role
@@ -49,7 +49,7 @@ pub record SameOne (k new : Knowledge) (x : Exchange) : Type 0 where
 pub body_one : (me : Member) (k new : Knowledge) (x : Exchange) → SameOne k new x → (kind : Kind) (role : Role) → body_on me new kind x role ≡ body_on me k kind x role
 body_one me k new x s kind role = body_same me k new kind x role (s.said kind role) (s.heard kind role)
 
--- The parts of the terms are the same.
+-- The knowledge of the parts of the terms is the same.
 pub record SameParts (me : Member) (k new : Knowledge) (x : Exchange) : Type 0 where
   pub revealed : new.revealed x ≡ k.revealed x
   pub answers : body_on me new kinds.Response x Responder ≡ body_on me k kinds.Response x Responder

@@ -1,21 +1,21 @@
--- The terms of an exchange that is kept.
+-- The terms of a kept exchange.
 use Rattle.std.proofs.Common.{◌≡◌, ◌∙◌, true, Option, Some, None, sym, ap, subst}
 use Rattle.std.specs.Prelude.{option_map, option_and_then, IfSome}
 use Rattle.std.specs.Bool.{then_some}
 use Rattle.bar_window.specs.declared.exchange.Exchange.{Exchange}
 use Rattle.bar_window.specs.Terms.{plain_terms}
-use Rattle.bar_wire.specs.Views.{AreTermWindows}
+use Rattle.bar_wire.specs.Code.Views.{AreTermWindows}
 use Rattle.bar_rules.specs.Member.{Member}
 use Rattle.bar_rules.specs.Peer.Agreement.{IsRecent}
 use Rattle.bar_rules.specs.Peer.Knowledge.{Knowledge}
 use Rattle.bar_rules.specs.Peer.Terms.{terms_of}
 use Rattle.bar_ledger.specs.declared.entry.Entry.{Entry}
 use Rattle.bar_ledger.specs.declared.ledger.Ledger.{Ledger}
-use Rattle.bar_ledger.specs.Kept.{Kept}
-use Rattle.bar_ledger.specs.Memory.{find_in}
-use Rattle.bar_ledger.specs.Recalls.{Recalls, IsKeptBy, complete_terms, kind_of_terms}
+use Rattle.bar_ledger.specs.Code.Kept.{Kept}
+use Rattle.bar_ledger.specs.Code.Memory.{find_in}
+use Rattle.bar_ledger.specs.Code.Recalls.{Recalls, IsKeptBy, complete_terms, kind_of_terms}
 
--- An entry of an exchange is complete: its windows are of the round, and its terms are those of the exchange.
+-- The entry of an exchange is complete: its windows are of the round, and its terms are those of the exchange.
 pub record IsComplete (me : Member) (k : Knowledge) (x : Exchange) (e : Entry) : Type 0 where
   pub windows : AreTermWindows me.session.shape x.round e.terms
   pub form : kind_of_terms (plain_terms e.terms) ≡ x.kind

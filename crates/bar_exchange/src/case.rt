@@ -1,16 +1,16 @@
 //! When a CASE is admitted.
 ghost use Rattle.std.specs.Prelude.{◌≡◌, ◌≤◌, ℕ, List};
 ghost use Rattle.bar_window.specs.declared.update.UpdateId.{UpdateId};
-ghost use Rattle.bar_window.specs.Window.{members};
+ghost use Rattle.bar_window.specs.Code.Window.{members};
 ghost use Rattle.bar_window.specs.Terms.{Push, plain_terms};
 ghost use Rattle.bar_wire.specs.Datagram.{Briefcase, Case, exchange_by};
-ghost use Rattle.bar_wire.specs.Views.{AreTermWindows};
+ghost use Rattle.bar_wire.specs.Code.Views.{AreTermWindows};
 ghost use Rattle.bar_rules.specs.Member.{Member, Session};
 ghost use Rattle.bar_rules.specs.Values.{counts_ok};
 ghost use Rattle.bar_rules.specs.Peer.Admission.{is_row_met};
 ghost use Rattle.bar_rules.specs.Peer.Knowledge.{Knowledge};
-ghost use Rattle.bar_ledger.specs.Recalls.{Recalls};
-ghost use Rattle.bar_exchange.specs.Counts.{HasCounts};
+ghost use Rattle.bar_ledger.specs.Code.Recalls.{Recalls};
+ghost use Rattle.bar_exchange.specs.Code.Counts.{HasCounts};
 
 use crate::aligned::are_aligned;
 use crate::counts::Counts;
@@ -20,7 +20,7 @@ use bar_terms::balanced_count;
 use bar_window::{Exchange, Role, Terms, Window};
 use bar_wire::Kind;
 
-/// Whether counts are those of a side's promise by what is wanted and given in a push.
+/// Whether the counts are those of a side's promise in a push in which the responder wants and gives these updates and this junk.
 fn are_of_push(counts: Counts, role: Role, want: &Window, give: &Window, junk: u8) -> bool
     ensures { (s : Session) (young aged : List UpdateId) (c : Briefcase) → HasCounts counts c → c.role ≡ role
         → c.terms ≡ Push young aged (members want.now) (members give.now) junk → result ≡ counts_ok s c }
@@ -32,7 +32,7 @@ fn are_of_push(counts: Counts, role: Role, want: &Window, give: &Window, junk: u
     u32::from(counts.updates) == updates && counts.junk == padding
 }
 
-/// Whether counts are those of a side's promise by the terms.
+/// Whether the counts are those of a side's promise under the terms.
 fn are_promised(counts: Counts, terms: &Terms, role: Role, cap: u8) -> bool
     ensures { (s : Session) (round : ℕ) (c : Briefcase) → cap ≡ s.cap → AreTermWindows s.shape round terms.now
         → c.role ≡ role → HasCounts counts c → c.terms ≡ plain_terms terms.now → result ≡ counts_ok s c }
@@ -50,7 +50,7 @@ fn are_promised(counts: Counts, terms: &Terms, role: Role, cap: u8) -> bool
     }
 }
 
-/// The row of a CASE of a side.
+/// Whether a CASE of a side meets its row.
 pub fn admits_case(ledger: &Ledger, x: Exchange, role: Role, terms: &Terms, counts: Counts) -> bool
     ensures { (me : Member) (k : Knowledge) (from to : ℕ) (c : Briefcase) → Recalls me k ledger.now → 2 ≤ me.session.shape.life
         → x ≡ exchange_by c.round c.kind role from to → c.role ≡ role

@@ -1,4 +1,4 @@
-/// How many updates and how many junk items a briefcase is said to have.
+/// The numbers of updates and of junk items that a CASE states for its briefcase.
 #[derive(Clone, Copy, Debug)]
 pub struct Counts {
     pub updates: u8,

@@ -1,19 +1,19 @@
-//! What a ledger keeps of a datagram that is admitted.
+//! How a ledger keeps an admitted datagram.
 ghost use Rattle.std.specs.Prelude.{◌≡◌, true, Some, None};
 ghost use Rattle.bar_window.specs.declared.exchange.Role.TheVariants.{Initiator};
 ghost use Rattle.bar_wire.specs.Datagram.{Datagram, kind_of, exchange_of, place_of};
 ghost use Rattle.bar_rules.specs.Member.{Member, IsMember};
 ghost use Rattle.bar_rules.specs.Peer.Knowledge.{Knowledge, with_heard};
-ghost use Rattle.bar_ledger.specs.Memory.{HasSame, MayHear};
-ghost use Rattle.bar_ledger.specs.Recalls.{Recalls};
-ghost use Rattle.bar_exchange.specs.Keeping.{IsAdmittedNow, HasRoomLeft, IsBegunWith, is_later};
-ghost use Rattle.bar_exchange.specs.Parts.{ChangesKept, asked_entry, with_heard_part};
+ghost use Rattle.bar_ledger.specs.Code.Memory.{HasSame, MayHear};
+ghost use Rattle.bar_ledger.specs.Code.Recalls.{Recalls};
+ghost use Rattle.bar_exchange.specs.Code.Keeping.{IsAdmittedNow, HasRoomLeft, IsBegunWith, is_later};
+ghost use Rattle.bar_exchange.specs.Code.Parts.{ChangesKept, asked_entry, with_heard_part};
 
 use bar_ledger::{Entry, Ledger, opening_kind};
 use bar_window::{Exchange, Role, Terms};
 use bar_wire::Kind;
 
-/// The entry of an exchange that this peer is asked for, in which nothing is said yet.
+/// The entry of an exchange that this peer was asked for, before anything is said in it.
 fn asked_entry(x: Exchange, seat: u8, terms: Terms) -> Entry
     ensures { result ≡ asked_entry x seat terms }
 {
@@ -29,7 +29,7 @@ fn asked_entry(x: Exchange, seat: u8, terms: Terms) -> Entry
     }
 }
 
-/// Keeps a REQUEST or a QUERY with the terms that it begins, in the next seat.
+/// Keeps a REQUEST or a QUERY with the terms that it begins, in the next free seat.
 pub fn keep_request(ledger: &mut Ledger, x: Exchange, terms: Terms, bytes: &[u8])
     ensures learns { (me : Member) (k : Knowledge) (d : Datagram) → IsMember me → Recalls me k ledger.old → IsAdmittedNow me k d bytes.now
         → HasRoomLeft me k → k.seat x ≡ None → place_of d.message ≡ Some (record { exchange = x; role = Initiator })
@@ -53,7 +53,7 @@ pub fn keep_request(ledger: &mut Ledger, x: Exchange, terms: Terms, bytes: &[u8]
     ledger.hear(x, kind, bytes);
 }
 
-/// Keeps a datagram of an exchange, and the terms with its part.
+/// Keeps a datagram of an exchange, and the terms including the part that it contains.
 pub fn keep_part(
     ledger: &mut Ledger,
     x: Exchange,

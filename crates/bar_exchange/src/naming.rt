@@ -1,16 +1,16 @@
-//! What was heard in other exchanges and has a signature that names a leaf.
+//! Admitted datagrams of other exchanges whose signatures name a given leaf.
 ghost use Rattle.std.specs.Prelude.{◌≡◌, ◌∷◌, ◌++◌, ◌-◌, ◌+◌, ◌≤◌, [], option_copied};
 ghost use Rattle.bar_window.specs.declared.exchange.XKind.TheVariants.{Balanced, Push};
 ghost use Rattle.bar_rules.specs.Peer.Evidence.{between, shared_from};
-ghost use Rattle.bar_ledger.specs.Naming.{names};
-ghost use Rattle.bar_exchange.specs.Naming.{passing_as, passing_in, passing_beside, passing_among, side_beside};
+ghost use Rattle.bar_ledger.specs.Code.Naming.{names};
+ghost use Rattle.bar_exchange.specs.Code.Naming.{passing_as, passing_in, passing_beside, passing_among, side_beside};
 
 use bar_ledger::{Ledger, names, opening_kind};
 use bar_seal::Verifier;
 use bar_window::{Exchange, Role, XKind};
 use bar_wire::Kind;
 
-/// The side of an exchange that isn't a party's own.
+/// The side of the other party in an exchange of this party.
 fn side_beside(party: u16, y: Exchange) -> Role
     ensures { result ≡ side_beside party y }
 {
@@ -40,7 +40,7 @@ fn between(p: u16, q: u16, round: u32, kind: XKind) -> (Exchange, Exchange)
     if p < q { (one, two) } else { (two, one) }
 }
 
-/// What is looked for: a datagram that was heard in another exchange than one, with a party, and whose signature names a leaf.
+/// A search for an admitted datagram of another exchange than `x`, with a party, whose signature names a leaf.
 #[derive(Drop)]
 struct Search<'v, 'a, V: Verifier> {
     verifier: &'v V,
@@ -51,7 +51,7 @@ struct Search<'v, 'a, V: Verifier> {
 }
 
 impl<'v, 'a, V: Verifier> Search<'v, 'a, V> {
-    /// The datagram of a kind that was heard from a side of an exchange, where its signature names the leaf.
+    /// The datagram of a kind that was heard from a side of an exchange, if its signature names the leaf.
     fn of_kind(&self, kind: Kind, y: Exchange, role: Role) -> Option<&'a [u8]>
         ensures { option_copied result ≡ passing_as
             (names (V.leaf_named self.now.verifier.now) (V.signature_len self.now.verifier.now) self.now.leaf)
@@ -61,7 +61,7 @@ impl<'v, 'a, V: Verifier> Search<'v, 'a, V> {
         names(self.verifier, Some(heard), self.leaf).then_some(heard)
     }
 
-    /// The first of a side's signed datagrams of an exchange whose signature names the leaf.
+    /// The first of a side's signed datagrams in an exchange whose signature names the leaf.
     fn of_side(&self, y: Exchange, role: Role) -> Option<&'a [u8]>
         ensures { option_copied result ≡ passing_in
             (names (V.leaf_named self.now.verifier.now) (V.signature_len self.now.verifier.now) self.now.leaf)
@@ -77,7 +77,7 @@ impl<'v, 'a, V: Verifier> Search<'v, 'a, V> {
         self.of_kind(Kind::Key, y, role)
     }
 
-    /// The first of an exchange, where that is another one.
+    /// The first such datagram of an exchange, if that is another one than `x`.
     fn beside(&self, y: Exchange) -> Option<&'a [u8]>
         ensures { option_copied result ≡ passing_beside
             (names (V.leaf_named self.now.verifier.now) (V.signature_len self.now.verifier.now) self.now.leaf)
@@ -89,7 +89,7 @@ impl<'v, 'a, V: Verifier> Search<'v, 'a, V> {
         self.of_side(y, side_beside(self.ledger.me(), y))
     }
 
-    /// The first of the two exchanges of a round and kind with the party.
+    /// The first such datagram of the two exchanges of a round and kind with the party.
     fn of_round_and_kind(&self, round: u32, kind: XKind) -> Option<&'a [u8]>
         ensures { option_copied result ≡ passing_among
             (names (V.leaf_named self.now.verifier.now) (V.signature_len self.now.verifier.now) self.now.leaf)
@@ -102,7 +102,7 @@ impl<'v, 'a, V: Verifier> Search<'v, 'a, V> {
         }
     }
 
-    /// The first of the exchanges of a round with the party.
+    /// The first such datagram of the exchanges of a round with the party.
     fn of_round(&self, round: u32) -> Option<&'a [u8]>
         ensures { option_copied result ≡ passing_among
             (names (V.leaf_named self.now.verifier.now) (V.signature_len self.now.verifier.now) self.now.leaf)
@@ -115,7 +115,7 @@ impl<'v, 'a, V: Verifier> Search<'v, 'a, V> {
         }
     }
 
-    /// The first of the exchanges of some rounds with the party, as far as rounds have numbers.
+    /// The first such datagram of the exchanges of `count` rounds with the party, starting with `first`, as far as rounds have numbers.
     fn of_rounds(&self, first: u32, count: u32) -> Option<&'a [u8]>
         ensures { first + count ≤ 4294967295 → option_copied result ≡ passing_among
             (names (V.leaf_named self.now.verifier.now) (V.signature_len self.now.verifier.now) self.now.leaf)
@@ -131,9 +131,8 @@ impl<'v, 'a, V: Verifier> Search<'v, 'a, V> {
     }
 }
 
-/// The first signed datagram that was heard in another exchange than this one with a party, whose signature names a leaf: of the
-/// exchanges that may still be asked about, in their order, and of the side that isn't this peer's. Where there is none, each slot is
-/// looked at once; no hash is counted and nothing is read.
+/// The first signed datagram heard from a party in another exchange than `x` whose signature names a leaf. The exchanges that may still be
+/// asked about are searched in their order. If there is none, each slot is looked at once, no hash is counted and no datagram is decoded.
 pub fn naming_elsewhere<'a, V: Verifier>(
     verifier: &V,
     ledger: &'a Ledger,

@@ -1,14 +1,14 @@
 //! When a KEYREQ and a KEY are admitted.
 ghost use Rattle.std.specs.Prelude.{◌≡◌, ℕ, List};
 ghost use Rattle.bar_window.specs.declared.exchange.XKind.{XKind};
-ghost use Rattle.bar_window.specs.Window.{members};
+ghost use Rattle.bar_window.specs.Code.Window.{members};
 ghost use Rattle.bar_terms.specs.Table.{is_within};
 ghost use Rattle.bar_wire.specs.Datagram.{KeyReq, Key, exchange_by};
 ghost use Rattle.bar_rules.specs.Member.{Member};
 ghost use Rattle.bar_rules.specs.Peer.Admission.{is_row_met};
 ghost use Rattle.bar_rules.specs.Peer.Knowledge.{Knowledge, table_of};
-ghost use Rattle.bar_store.specs.Holds.{Holds};
-ghost use Rattle.bar_ledger.specs.Recalls.{Recalls};
+ghost use Rattle.bar_store.specs.Code.Holds.{Holds};
+ghost use Rattle.bar_ledger.specs.Code.Recalls.{Recalls};
 
 use bar_ledger::Ledger;
 use bar_store::Store;
@@ -23,7 +23,7 @@ pub fn has_digests(store: &Store, updates: &Window) -> bool
     within(updates, store.table())
 }
 
-/// The row of a KEYREQ of a side.
+/// Whether a KEYREQ of a side meets its row.
 pub fn admits_key_request(ledger: &Ledger, x: Exchange, role: Role) -> bool
     ensures { (me : Member) (k : Knowledge) (kind : XKind) (from to r : ℕ) → Recalls me k ledger.now
         → x ≡ exchange_by r kind role from to → result ≡ is_row_met me k from to (KeyReq r kind role) }
@@ -40,7 +40,7 @@ pub fn admits_key_request(ledger: &Ledger, x: Exchange, role: Role) -> bool
     !ledger.has_heard(x, Kind::KeyReq, role)
 }
 
-/// The row of a KEY of a side.
+/// Whether a KEY of a side meets its row.
 pub fn admits_key(ledger: &Ledger, x: Exchange, role: Role) -> bool
     ensures { (me : Member) (k : Knowledge) (kind : XKind) (from to r : ℕ) (key : List ℕ) → Recalls me k ledger.now
         → x ≡ exchange_by r kind role from to

@@ -1,4 +1,4 @@
-//! What a ledger is told of the messages that this peer says.
+//! How a ledger records the messages that this peer says.
 ghost use Rattle.std.specs.Prelude.{◌≡◌, true, false, Some, None, is_some, option_map};
 ghost use Rattle.bar_window.specs.declared.exchange.Role.TheVariants.{Initiator, Responder};
 ghost use Rattle.bar_wire.specs.Datagram.{Datagram};
@@ -8,17 +8,17 @@ ghost use Rattle.bar_rules.specs.Peer.Agreement.{IsRecent};
 ghost use Rattle.bar_rules.specs.Peer.Exchanges.{role_of, request_kind, answer_kind};
 ghost use Rattle.bar_rules.specs.Peer.Knowledge.{Knowledge, has_said_of, with_said};
 ghost use Rattle.bar_rules.specs.Peer.Terms.{terms_of};
-ghost use Rattle.bar_ledger.specs.Memory.{find_in, bytes_in, HasSame};
-ghost use Rattle.bar_ledger.specs.Recalls.{Recalls};
+ghost use Rattle.bar_ledger.specs.Code.Memory.{find_in, bytes_in, HasSame};
+ghost use Rattle.bar_ledger.specs.Code.Recalls.{Recalls};
 ghost use Rattle.bar_ledger.specs.declared.entry.Entry.{Entry};
-ghost use Rattle.bar_exchange.specs.Answering.{telling_kind, IsAnsweredWith};
-ghost use Rattle.bar_exchange.specs.Keeping.{IsSaidNow, HasRoomLeft, IsBegunWith, IsCommittedTo};
+ghost use Rattle.bar_exchange.specs.Code.Answering.{telling_kind, IsAnsweredWith};
+ghost use Rattle.bar_exchange.specs.Code.Keeping.{IsSaidNow, HasRoomLeft, IsBegunWith, IsCommittedTo};
 
 use bar_ledger::{Entry, Ledger};
 use bar_window::{Exchange, Role, Terms, XKind};
 use bar_wire::Kind;
 
-/// Remembers that this peer asks for an exchange, with what its REQUEST or QUERY has of the terms.
+/// Records that this peer asks for an exchange, with the part of the terms in its REQUEST or QUERY.
 pub fn ask(ledger: &mut Ledger, x: Exchange, terms: Terms)
     ensures learns { (me : Member) (k : Knowledge) (d : Datagram) → Recalls me k ledger.old → IsSaidNow me k d (request_kind x.kind) x
         → role_of me x ≡ Initiator → HasRoomLeft me k → IsBegunWith me d x terms → IsCommittedTo me k x terms
@@ -40,7 +40,7 @@ pub fn ask(ledger: &mut Ledger, x: Exchange, terms: Terms)
     });
 }
 
-/// Whether the initiator's part of the terms is known, where this peer is the responder.
+/// Whether this peer, as the responder, knows the initiator's part of the terms.
 fn is_told(ledger: &Ledger, x: Exchange) -> bool
     ensures { result ≡ is_some (bytes_in ledger.now x (telling_kind x.kind)) }
 {
@@ -51,7 +51,7 @@ fn is_told(ledger: &Ledger, x: Exchange) -> bool
     ledger.heard(x, kind).is_some()
 }
 
-/// Remembers that this peer answers a request, with the terms that its RESPONSE or REPLY makes of those that are kept.
+/// Records that this peer answers a request, with the kept terms as its RESPONSE or REPLY completes them.
 pub fn answer(ledger: &mut Ledger, x: Exchange, terms: Terms)
     ensures learns { (me : Member) (k : Knowledge) (d : Datagram) (e : Entry) → Recalls me k ledger.old
         → IsSaidNow me k d (answer_kind x.kind) x → role_of me x ≡ Responder
@@ -72,8 +72,7 @@ pub fn answer(ledger: &mut Ledger, x: Exchange, terms: Terms)
     ledger.set(answered);
 }
 
-/// Remembers that this peer's CASE of an exchange is said, where its terms are complete and this peer's first message is said, and answers
-/// whether it does.
+/// If the terms of an exchange are complete and this peer said its first message, records that it says its CASE. Returns whether it does.
 pub fn say_case(ledger: &mut Ledger, x: Exchange) -> bool
     ensures learns { (me : Member) (k : Knowledge) (d : Datagram) → Recalls me k ledger.old → IsSaidNow me k d Case x
         → is_some (terms_of me k x) ≡ true → (result ≡ true) × Recalls me (with_said me d k) ledger.new }
@@ -95,7 +94,7 @@ pub fn say_case(ledger: &mut Ledger, x: Exchange) -> bool
     true
 }
 
-/// Remembers that this peer's KEY of an exchange is said, where the exchange is kept, and answers whether it is.
+/// If an exchange is kept, records that this peer says its KEY. Returns whether it does.
 pub fn say_key(ledger: &mut Ledger, x: Exchange) -> bool
     ensures learns { (me : Member) (k : Knowledge) (d : Datagram) → Recalls me k ledger.old → IsSaidNow me k d Key x
         → has_said_of k Case x (role_of me x) ≡ true → (result ≡ true) × Recalls me (with_said me d k) ledger.new }

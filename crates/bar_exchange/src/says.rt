@@ -2,7 +2,7 @@ use crate::say::Say;
 use bar_window::Exchange;
 use bar_wire::Kind;
 
-/// What one datagram or tick gives to say, in order.
+/// The messages to be said for one datagram or tick, in order.
 #[derive(Clone, Copy, Debug, PartialEq, Eq)]
 pub enum Says {
     Nothing,
@@ -13,9 +13,9 @@ pub enum Says {
 impl Says {
     ghost use Rattle.std.specs.Prelude.{◌≡◌, [], ◌∷◌};
     ghost use Rattle.bar_rules.specs.Peer.Replies.{orders_when};
-    ghost use Rattle.bar_exchange.specs.Says.{order_by, orders_of_reply, Fits, AreFitting};
+    ghost use Rattle.bar_exchange.specs.Code.Says.{order_by, orders_of_reply, Fits, AreFitting};
 
-    /// One thing to be said, where it is due.
+    /// One message to be said if it is due, else none.
     pub fn one_when(is_due: bool, kind: Kind, x: Exchange) -> Says
         ensures orders { orders_of_reply result ≡ orders_when is_due (order_by kind x ∷ []) }
         ensures fitting { Fits kind x.kind → AreFitting result }

@@ -3,18 +3,18 @@ ghost use Rattle.std.specs.Prelude.{◌≡◌, ◌≤◌, ◌↔◌, IsTrue, IfS
 ghost use Rattle.std.specs.List.{All};
 ghost use Rattle.bar_window.specs.Limits.{most_items};
 ghost use Rattle.bar_window.specs.Terms.{plain_terms};
-ghost use Rattle.bar_terms.specs.Windows.{AreAligned};
+ghost use Rattle.bar_terms.specs.Code.Windows.{AreAligned};
 ghost use Rattle.bar_wire.specs.Limits.{largest_datagram};
 ghost use Rattle.bar_wire.specs.declared.kind.Kind.TheVariants as kinds;
-ghost use Rattle.bar_wire.specs.Views.{AreTermWindows};
+ghost use Rattle.bar_wire.specs.Code.Views.{AreTermWindows};
 ghost use Rattle.bar_case.specs.Sealed.{IsHeldItem};
 ghost use Rattle.bar_rules.specs.Member.{Member};
 ghost use Rattle.bar_rules.specs.Peer.Agreement.{IsRecent};
 ghost use Rattle.bar_rules.specs.Peer.Knowledge.{Knowledge};
 ghost use Rattle.bar_rules.specs.Peer.Terms.{terms_of};
 ghost use Rattle.bar_rules.specs.Peer.Writing.{body_now};
-ghost use Rattle.bar_store.specs.Held.{block_in};
-ghost use Rattle.bar_exchange.specs.Writing.{AreSourcesOf, CanSeal, IsSealable, IsWritten, LeavesRest};
+ghost use Rattle.bar_store.specs.Code.Held.{block_in};
+ghost use Rattle.bar_exchange.specs.Code.Writing.{AreSourcesOf, CanSeal, IsSealable, IsWritten, LeavesRest};
 
 use crate::known::kept_terms;
 use crate::sources::Sources;
@@ -25,7 +25,7 @@ use bar_terms::{Item, can_promise, junk_count, promise, update_count};
 use bar_window::{Exchange, LARGEST_CIPHER, Role, Terms};
 use bar_wire::Body;
 
-/// The terms of an exchange, where both sides' parts are known.
+/// The terms of an exchange, if both sides' parts are known.
 fn complete_terms(sources: &Sources<'_>, x: Exchange) -> Option<Terms>
     ensures known { (me : Member) (k : Knowledge) → AreSourcesOf me k sources.now → IsRecent me k x.round
         → option_map plain_terms result ≡ terms_of me k x }
@@ -37,7 +37,7 @@ fn complete_terms(sources: &Sources<'_>, x: Exchange) -> Option<Terms>
     kept_terms(sources, x)
 }
 
-/// Whether an item of a promise is at hand: junk always is.
+/// Whether an item of a promise is available: its block is held, or it is junk.
 fn is_held(store: &Store, item: &Item) -> bool
     ensures { IsTrue result ↔ IsHeldItem (block_in store.now) item.now }
 {
@@ -47,7 +47,7 @@ fn is_held(store: &Store, item: &Item) -> bool
     }
 }
 
-/// Whether all items of a promise are at hand.
+/// Whether all items of a promise are available.
 fn are_held(store: &Store, items: &[Item]) -> bool
     ensures { IsTrue result ↔ All (IsHeldItem (block_in store.now)) items.now }
 {
@@ -59,7 +59,7 @@ fn are_held(store: &Store, items: &[Item]) -> bool
     true
 }
 
-/// Whether a side promises something by terms, and the blocks of the updates that it promises are held.
+/// Whether a side can promise something by the terms, and the blocks of the updates that it promises are held.
 fn can_seal(store: &Store, terms: &Terms, role: Role, cap: u8) -> bool
     requires windows { AreAligned terms.now }
     requires cap { cap ≤ most_items }
@@ -72,8 +72,8 @@ fn can_seal(store: &Store, terms: &Terms, role: Role, cap: u8) -> bool
     are_held(store, &promise.items[..usize::from(promise.len)])
 }
 
-/// Writes the message of a CASE, with the blocks that are held now, and answers its length; or answers `None` where the terms aren't
-/// complete or a promised block isn't held.
+/// Writes the message of a CASE, with the blocks that are held now, and returns its length, or `None` if the terms aren't complete or a
+/// promised block isn't held.
 #[tactic(auto, using(crate::proofs::Messages::window_short))]
 pub fn write_case(sources: &Sources<'_>, x: Exchange, out: &mut [u8]) -> Option<usize>
     requires room { largest_datagram ≤ length out.old }

@@ -4,7 +4,7 @@ ghost use Rattle.bar_wire.specs.Grammar.{IsRound};
 ghost use Rattle.bar_rules.specs.Member.{Member};
 ghost use Rattle.bar_rules.specs.Secrets.{seed_of};
 ghost use Rattle.bar_rules.specs.Peer.Knowledge.{Knowledge};
-ghost use Rattle.bar_exchange.specs.Writing.{AreSourcesOf};
+ghost use Rattle.bar_exchange.specs.Code.Writing.{AreSourcesOf};
 
 use crate::sources::Sources;
 

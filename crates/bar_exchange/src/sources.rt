@@ -3,7 +3,7 @@ use bar_roster::Session;
 use bar_seeds::{Secrets, SeedChain};
 use bar_store::Store;
 
-/// What a peer writes its messages from: its session, its secret and the seeds that come from it, what it exchanged, and what it holds.
+/// What a peer writes its messages from: its session, its secrets and the seed chain derived from them, its exchanges, and what it holds.
 #[derive(Clone, Copy)]
 pub struct Sources<'a> {
     pub session: &'a Session,

@@ -1,4 +1,4 @@
-//! What is said again at a tick.
+//! The messages that are sent again at a tick.
 ghost use Rattle.std.specs.Prelude.{◌≡◌, ◌++◌, [], ◌∷◌, true};
 ghost use Rattle.bar_rules.specs.Member.{Member, IsMember};
 ghost use Rattle.bar_rules.specs.Peer.Agreement.{IsRecent};
@@ -8,8 +8,8 @@ ghost use Rattle.bar_wire.specs.declared.kind.Kind.TheVariants.{Case};
 ghost use Rattle.bar_rules.specs.Peer.Orders.{AskKey, Resend};
 ghost use Rattle.bar_rules.specs.Peer.Replies.{orders_when};
 ghost use Rattle.bar_rules.specs.Peer.Ticks.{lacks_answer, lacks_case, lacks_key, lacks_keys, reveals, case_again, again};
-ghost use Rattle.bar_ledger.specs.Recalls.{Recalls};
-ghost use Rattle.bar_exchange.specs.Says.{orders_at_tick};
+ghost use Rattle.bar_ledger.specs.Code.Recalls.{Recalls};
+ghost use Rattle.bar_exchange.specs.Code.Says.{orders_at_tick};
 
 use crate::say::Say;
 use crate::says::Says;
@@ -17,7 +17,7 @@ use bar_ledger::{ANSWER_DEADLINE, Ledger, REQUEST_DEADLINE, opening_kind};
 use bar_window::{Exchange, Role, XKind};
 use bar_wire::Kind;
 
-/// Whether no KEY of an exchange is said or heard, by this peer's side.
+/// Whether this peer, on side `role`, neither said nor heard a KEY of an exchange.
 fn lacks_keys(ledger: &Ledger, x: Exchange, role: Role) -> bool
     ensures { (me : Member) (k : Knowledge) → Recalls me k ledger.now → IsRecent me k x.round → role ≡ role_of me x
         → result ≡ lacks_keys me k x }
@@ -25,7 +25,8 @@ fn lacks_keys(ledger: &Ledger, x: Exchange, role: Role) -> bool
     !ledger.has_said(x, Kind::Key, role) && !ledger.has_heard(x, Kind::Key, role.other())
 }
 
-/// Whether this peer's CASE is said and the partner may lack it: the partner's isn't heard, or in version 3 no KEY is said or heard.
+/// Whether this peer's CASE is said, may still be sent again, and the partner may lack it. In version 3 the partner may lack it if no KEY
+/// is said or heard; in earlier versions, if the partner's CASE isn't heard.
 fn lacks_case(ledger: &Ledger, x: Exchange) -> bool
     ensures { (me : Member) (k : Knowledge) → IsMember me → Recalls me k ledger.now → result ≡ lacks_case me k x }
 {
@@ -43,7 +44,7 @@ fn lacks_case(ledger: &Ledger, x: Exchange) -> bool
     }
 }
 
-/// Whether this peer's CASE is said and the partner's is heard, but no KEY is.
+/// Whether this peer's CASE is said and the partner's is heard, but the partner's KEY isn't, and it may still be asked for.
 fn lacks_key(ledger: &Ledger, x: Exchange) -> bool
     ensures { (me : Member) (k : Knowledge) → Recalls me k ledger.now → result ≡ lacks_key me k x }
 {
@@ -60,7 +61,7 @@ fn lacks_key(ledger: &Ledger, x: Exchange) -> bool
     !ledger.has_heard(x, Kind::Key, role.other())
 }
 
-/// The CASE again, behind the DIVULGE of a balanced initiator.
+/// Sends the CASE again; the initiator of a balanced exchange sends its DIVULGE before it.
 fn case_revealed(x: Exchange, role: Role) -> Says
     ensures { orders_at_tick result ≡ reveals x.kind role x ++ Resend Case x ∷ [] }
 {
@@ -80,7 +81,8 @@ fn case_revealed(x: Exchange, role: Role) -> Says
     }
 }
 
-/// The CASE again: where the partner's is heard, before the KEYREQ, and else behind the DIVULGE of a balanced initiator.
+/// Sends the CASE again. If the partner's CASE is heard, the KEYREQ is sent after it. Else the initiator of a balanced exchange sends its
+/// DIVULGE before it.
 fn case_again(ledger: &Ledger, x: Exchange) -> Says
     ensures { (me : Member) (k : Knowledge) → IsMember me → Recalls me k ledger.now → lacks_case me k x ≡ true
         → orders_at_tick result ≡ case_again me k x ++ orders_when (lacks_key me k x) (AskKey x ∷ []) }
@@ -100,7 +102,7 @@ fn case_again(ledger: &Ledger, x: Exchange) -> Says
     Says::Two(case, key_request)
 }
 
-/// What is said again of an exchange that is answered: its CASE, and what goes with it or asks for the KEY.
+/// What is sent again in an answered exchange: the CASE with the DIVULGE or the KEYREQ, or the KEYREQ alone, or nothing.
 fn later_again(ledger: &Ledger, x: Exchange) -> Says
     ensures { (me : Member) (k : Knowledge) → IsMember me → Recalls me k ledger.now
         → orders_at_tick result
@@ -118,7 +120,7 @@ fn later_again(ledger: &Ledger, x: Exchange) -> Says
     }
 }
 
-/// Whether this peer asked for an exchange and has no answer.
+/// Whether this peer asked for an exchange, has no answer, and may still ask.
 fn lacks_answer(ledger: &Ledger, x: Exchange) -> bool
     ensures { (me : Member) (k : Knowledge) → IsMember me → Recalls me k ledger.now → result ≡ lacks_answer me k x }
 {
@@ -128,7 +130,7 @@ fn lacks_answer(ledger: &Ledger, x: Exchange) -> bool
         && !ledger.has_heard(x, answer, Role::Responder)
 }
 
-/// What is said again at a tick of an open exchange: the request where it has no answer, and else what comes behind the answer.
+/// What is sent again at a tick in an open exchange: the request if it has no answer, else the messages after the answer.
 pub fn again(ledger: &Ledger, x: Exchange) -> Says
     ensures { (me : Member) (k : Knowledge) → IsMember me → Recalls me k ledger.now → orders_at_tick result ≡ again me k x }
 {

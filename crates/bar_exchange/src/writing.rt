@@ -1,20 +1,20 @@
-//! The messages of every exchange that need no terms, and how each message is written.
+//! The messages of exchanges that don't depend on terms, and how messages are written.
 ghost use Rattle.std.specs.Prelude.{◌≡◌, ◌≤◌, ◌+◌, length, take, Some};
 ghost use Rattle.bar_wire.specs.Limits.{header_len, largest_datagram};
-ghost use Rattle.bar_wire.specs.Views.{plain, IsBody};
-ghost use Rattle.bar_wire.specs.Writing.{body_written};
+ghost use Rattle.bar_wire.specs.Code.Views.{plain, IsBody};
+ghost use Rattle.bar_wire.specs.Code.Writing.{body_written};
 ghost use Rattle.bar_wire.specs.declared.kind.Kind.TheVariants as kinds;
 ghost use Rattle.bar_rules.specs.Member.{Member};
 ghost use Rattle.bar_rules.specs.Peer.Knowledge.{Knowledge};
 ghost use Rattle.bar_rules.specs.Peer.Writing.{body_now};
-ghost use Rattle.bar_exchange.specs.Writing.{AreSourcesOf, IsWritten, LeavesRest, bytes_to, largest_message};
+ghost use Rattle.bar_exchange.specs.Code.Writing.{AreSourcesOf, IsWritten, LeavesRest, bytes_to, largest_message};
 
 use crate::sources::Sources;
 use bar_window::Exchange;
 use bar_wire::{Body, encode};
 
-/// Writes the message of a body from this peer to its partner in an exchange, which is all before the signature, to the front of `out`,
-/// and answers its length.
+/// Writes the message of a body from this peer to its partner in an exchange, without the signature, to the start of `out`, and returns its
+/// length.
 pub fn write_message(sources: &Sources<'_>, x: Exchange, body: &Body<'_>, out: &mut [u8]) -> usize
     requires body { IsBody sources.now.session.now.shape body.now }
     requires short { header_len + body_written sources.now.session.now.shape body.now ≤ largest_message }
@@ -33,7 +33,7 @@ pub fn write_message(sources: &Sources<'_>, x: Exchange, body: &Body<'_>, out: &
     )
 }
 
-/// Writes the message that asks for the key of the other side's briefcase, and answers its length.
+/// Writes the message that asks for the key of the other side's briefcase, and returns its length.
 pub fn write_key_request(sources: &Sources<'_>, x: Exchange, out: &mut [u8]) -> usize
     requires room { largest_datagram ≤ length out.old }
     ensures written { (me : Member) (k : Knowledge) → AreSourcesOf me k sources.now
@@ -49,7 +49,7 @@ pub fn write_key_request(sources: &Sources<'_>, x: Exchange, out: &mut [u8]) -> 
     write_message(sources, x, &body, out)
 }
 
-/// Writes the message that gives the key of this side's briefcase, and answers its length.
+/// Writes the message that gives the key of this side's briefcase, and returns its length.
 pub fn write_key(sources: &Sources<'_>, x: Exchange, out: &mut [u8]) -> usize
     requires room { largest_datagram ≤ length out.old }
     ensures written { (me : Member) (k : Knowledge) → AreSourcesOf me k sources.now

@@ -1,4 +1,4 @@
--- What files hold once findings were written, or some of them.
+-- What files hold after findings were written, in whole or in part.
 use Rattle.std.proofs.Common.{◌≡◌, ◌≢◌, ◌⊎◌, ℕ, ◌+◌, ◌≤◌, ◌<◌, List, [], ◌∷◌, ◌++◌, Option, None, Some, IfSome, refl, sym, ap, ◌∙◌, subst, inl, inr, map, take, length, append-nil, arith}
 use Rattle.std.proofs.Math.Seq.{take-length}
 use Rattle.std.specs.List.{AllByRecursion, concat}
@@ -17,7 +17,7 @@ use Rattle.bar_findings.specs.Findings.{Finding, Found, IsWriteTo, IsWrittenUpTo
 use Rattle.bar_findings.proofs.Lists.{all-at, all-joined, all-rest}
 use Rattle.bar_findings.proofs.Names.{AreDistinct}
 
--- each file is created before it is added to
+-- each file is created before it is appended to
 pub can-write : (findings : List Finding) (here : CreatedFiles) → CanRun (findings_actions findings) here
 can-write [] here = tt
 can-write (f ∷ fs) here =
@@ -66,7 +66,7 @@ named-findings P (f ∷ fs) call all (inr h) =
       | inr later ↦ named-findings P fs call all.1 later
     ]
 
--- ---- what the files hold once all is written
+-- ---- what the files hold after everything was written
 
 pub unwritten : (findings : List Finding) (content : Content) (path : List ℕ) → AllByRecursion (λ f. f.name ≢ path) findings →
     content_after (findings_actions findings) content path ≡ content path
@@ -74,7 +74,7 @@ unwritten findings content path others =
     content-untouched (findings_actions findings) content path
     (λ h. touched-findings (λ name. name ≢ path) findings path others h refl)
 
--- a file that is written, where the others behind it have other names
+-- a file that was written, if the following files have other names
 first-written : (f : Finding) (content : Content) → content_after (finding_actions f) content f.name ≡ Some (bytes_of f)
 first-written f content = appends-same f.name [] f.pieces (created content f.name) (put_at-same content f.name [])
 
@@ -93,13 +93,13 @@ all-written (f ∷ fs) content distinct =
           (behind (content_after (finding_actions f) content) refl),
     )
 
--- ---- what was done of it
+-- ---- what was done of the findings
 
 no-show-in : (f : Finding) (front rest : List Action) → finding_actions f ≡ front ++ rest → IsShowNext rest → ⊥
 no-show-in f [] rest p h = subst IsShowNext (sym p) h
 no-show-in f (x ∷ xs) rest p h = let q : map (append f.name) f.pieces ≡ xs ++ rest = cc in no-show f.name f.pieces xs rest q h
 
--- nothing of it prints
+-- no action of the findings prints
 pub silent-findings : (findings : List Finding) (done : List Action) (b : Begun (findings_actions findings) done) → IsShowNext b.rest → ⊥
 silent-findings [] done b h = subst IsShowNext (no-next done b) h
 silent-findings (f ∷ fs) done b h =
@@ -113,7 +113,7 @@ silent-findings (f ∷ fs) done b h =
 shown-create : (path : List ℕ) (more : List Action) → shown (create path ∷ more) ≡ shown more
 shown-create path more = refl
 
--- what was done of one file: it is as it was, or has a front of its bytes
+-- what was done for one file: it is unchanged, or contains a prefix of its bytes
 begun-finding : (f : Finding) (content : Content) (done : List Action) → Begun (finding_actions f) done →
     ((content_after done content f.name ≡ content f.name)
     ⊎ ((k : ℕ) × (content_after done content f.name ≡ Some (take k (bytes_of f))))) × (shown done ≡ [])
@@ -134,7 +134,7 @@ begun-finding f content done b =
       ]
     ]
 
--- what was done of one file changes no other
+-- what was done for one file changes no other file
 begun-other : (f : Finding) (content : Content) (done : List Action) (path : List ℕ) → Begun (finding_actions f) done → path ≢ f.name →
     content_after done content path ≡ content path
 begun-other f content done path b differs =
@@ -146,7 +146,7 @@ begun-others findings content done path b others =
     content-untouched done content path
     (λ h. touched-findings (λ name. name ≢ path) findings path others (Touches-begun (findings_actions findings) done path b h) refl)
 
--- one file was written, and the others behind it so far
+-- one file was written, and the following files up to some point
 behind-finding : (f : Finding) (fs : List Finding) (content new : Content) → AllByRecursion (λ g. g.name ≢ f.name) fs →
     new f.name ≡ Some (bytes_of f) → IsWrittenUpTo fs (content_after (finding_actions f) content) new → IsWrittenUpTo (f ∷ fs) content new
 behind-finding f fs content new differ whole w =
@@ -165,7 +165,7 @@ behind-finding f fs content new differ whole w =
           (λ g e d. e ∙ same g d) w.others behind.1;
     }
 
--- what was done of them all
+-- what was done for all files
 pub written-front : (findings : List Finding) (content : Content) (done : List Action) → AreDistinct findings →
     Begun (findings_actions findings) done →
     ((findings ≡ []) × (done ≡ [])) ⊎ (IsWrittenUpTo findings content (content_after done content) × (shown done ≡ []))
@@ -218,7 +218,7 @@ written-front (f ∷ fs) content done distinct b =
           ]
     ]
 
--- the same told from what the files held before something else was done
+-- the same relative to earlier content with the same files
 pub written-since : (findings : List Finding) (old mid new : Content) → AllByRecursion (λ f. mid f.name ≡ old f.name) findings →
     IsWrittenUpTo findings mid new → IsWrittenUpTo findings old new
 written-since findings old mid new same w =

@@ -1,4 +1,4 @@
--- What holds of each file of a list.
+-- Properties of each file of a list.
 use Rattle.std.proofs.Common.{ℕ, zero, suc, ◌+◌, ◌≤◌, ◌<◌, List, [], ◌∷◌, ◌++◌, inl, inr, subst, arith}
 use Rattle.std.proofs.Math.Nat.{eq-or-lt_of_le}
 use Rattle.std.specs.List.{AllByRecursion, flat_map, range_with_len}
@@ -17,7 +17,7 @@ pub all-joined : {X : Type 0} (P Q R : X → Type 0) (xs : List X) → ((x : X) 
 all-joined P Q R [] so h k = tt
 all-joined P Q R (x ∷ xs) so h k = (so x h.0 k.0, all-joined P Q R xs so h.1 k.1)
 
--- of those of a range of numbers, and of those of one number
+-- if a property holds for the elements of each number of a range, it holds for all of them
 pub all-range : {X : Type 0} (P : X → Type 0) (f : ℕ → List X) (a n : ℕ) → ((i : ℕ) → a ≤ i → i < a + n → AllByRecursion P (f i)) →
     AllByRecursion P (flat_map f (range_with_len a n))
 all-range P f a zero h = tt

@@ -1,4 +1,4 @@
--- The names of findings are all different.
+-- The names of findings are distinct.
 use Rattle.std.proofs.Common.{◌≡◌, ◌≢◌, ℕ, zero, suc, ◌+◌, ◌^◌, ◌≤◌, ◌<◌, List, [], ◌∷◌, ◌++◌, Option, None, Some, codes, refl, sym, subst, inl, inr, arith}
 use Rattle.std.proofs.lemmas.Fmt.{decimal_injective, decimal_is_IsNumeral}
 use Rattle.std.proofs.lemmas.List.{append_cancel_left}
@@ -9,13 +9,13 @@ use Rattle.bar_laws.proofs.Logs.{all-map}
 use Rattle.bar_findings.specs.Findings.{Finding, Found, IsFindingName, table_name, evidence_name, file_of, findings_of}
 use Rattle.bar_findings.proofs.Lists.{all-range}
 
--- the files of two parties are different
+-- the evidence files of two parties have different names
 pub parties-differ : (found : List ℕ) (p q : ℕ) → p < 2 ^ 64 → q < 2 ^ 64 → evidence_name found p ≡ evidence_name found q → p ≡ q
 parties-differ found p q h k e =
     decimal_injective p q h k
     (append_cancel_left (codes ".") (decimal p) (decimal q) (append_cancel_left found (codes "." ++ decimal p) (codes "." ++ decimal q) e))
 
--- a number doesn't spell the word
+-- a decimal number isn't the text `table`
 no-table : (p : ℕ) → p < 2 ^ 64 → decimal p ≡ codes "table" → ⊥
 no-table p h e =
     let digits : AllDigits 10 (codes "table") = subst (AllDigits 10) e (decimal_is_IsNumeral p h).0.1 in
@@ -27,7 +27,7 @@ table-differs found p h e =
     no-table p h
     (append_cancel_left (codes ".") (decimal p) (codes "table") (append_cancel_left found (codes "." ++ decimal p) (codes ".table") e))
 
--- each name is of one of these
+-- each file has this name
 pub file-names : (name : List ℕ) (o : Option (List ℕ)) → AllByRecursion (λ f. f.name ≡ name) (file_of name o)
 file-names name None = tt
 file-names name (Some bytes) = (refl, tt)
@@ -41,7 +41,7 @@ finding-names found manifests rounds evidence parties = (
       (file_of (evidence_name found party) (evidence party)) (λ f e. inr (party, e)) (file-names (evidence_name found party) (evidence party))),
 )
 
--- no two files have one name
+-- no two files have the same name
 abbrev pub AreDistinct : List Finding → Type 0
 AreDistinct [] = Unit {0}
 AreDistinct (f ∷ fs) = AllByRecursion (λ g. g.name ≢ f.name) fs × AreDistinct fs

@@ -1,4 +1,4 @@
--- Findings by what is found at the numbers that count.
+-- Findings depend only on what was found at the numbers in range.
 use Rattle.std.proofs.Common.{◌≡◌, ℕ, zero, suc, ◌+◌, ◌≤◌, ◌<◌, List, ◌∷◌, ◌++◌, refl, ap, ◌∙◌, arith}
 use Rattle.std.specs.List.{flat_map, range_with_len}
 use Rattle.bar_findings.specs.Findings.{Found, evidence_name, file_of, findings_of, table_of}

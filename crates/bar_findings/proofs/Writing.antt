@@ -1,4 +1,4 @@
--- What is written for each number, as far as a loop has come.
+-- The actions for each number of a range, at each step of a loop.
 use Rattle.std.proofs.Common.{◌≡◌, ℕ, ◌+◌, ◌-◌, ◌<◌, ◌≤◌, ◌^◌, List, [], ◌∷◌, ◌++◌, Option, Some, Result, Ok, Err, sym, ap, ◌∙◌, subst, append-nil, map, length, min, take, IfSome, arith}
 use Rattle.std.proofs.lemmas.Grind.{flat_map-append}
 use Rattle.std.proofs.lemmas.List.{map-append, take_all}
@@ -7,19 +7,19 @@ use Rattle.std.specs.Option.{option_to_list}
 use Rattle.bar_outside.specs.declared.fault.Fault.{Fault}
 use Rattle.bar_outside.specs.Plan.{Outside, Action}
 use Rattle.bar_outside.specs.Plan.Action.{append, create}
-use Rattle.bar_outside.specs.Follows.{Follows}
+use Rattle.bar_outside.specs.Code.Follows.{Follows}
 use Rattle.bar_outside.proofs.Following.{followed, stopped}
 use Rattle.bar_wire.specs.Grammar.{entry as entry_bytes}
 use Rattle.bar_findings.specs.Findings.{finding_actions, findings_actions, file_of}
 use Rattle.bar_findings.proofs.Ranges.{one-more, split-at}
 
--- the actions of many things are those of each
+-- the actions of a list are those of its elements, in order
 abbrev pub Joins : {A : Type 0} → (List A → List Action) → Type 0
 Joins {A} actions = (xs ys : List A) → actions (xs ++ ys) ≡ actions xs ++ actions ys
 
 module _ {A : Type 0} (actions : List A → List Action) (join : Joins actions) (f : ℕ → List A) (k : ℕ) (old mid : Outside)
     (before : Follows {T = Unit {0}} (actions (flat_map f (range_with_len 1 k))) old mid (Ok tt)) where
-  -- the actions of one number more were done
+  -- the actions of one more number were done
   pub one-written : (new : Outside) → Follows {T = Unit {0}} (actions (f (k + 1))) mid new (Ok tt) →
       Follows {T = Unit {0}} (actions (flat_map f (range_with_len 1 (k + 1)))) old new (Ok tt)
   one-written new now =
@@ -27,7 +27,7 @@ module _ {A : Type 0} (actions : List A → List Action) (join : Joins actions) 
       (sym (ap actions (one-more f k) ∙ join (flat_map f (range_with_len 1 k)) (f (k + 1))))
       (followed (actions (flat_map f (range_with_len 1 k))) (actions (f (k + 1))) old mid new tt before (Ok tt) now)
 
-  -- they stopped at a fault
+  -- the actions of this number stopped at a fault
   pub one-unwritten : (new : Outside) (n : ℕ) (fault : Fault) → k < n → Follows {T = Unit {0}} (actions (f (k + 1))) mid new (Err fault) →
       Follows {T = Unit {0}} (actions (flat_map f (range_with_len 1 n))) old new (Err fault)
   one-unwritten new n fault h now =
@@ -55,7 +55,7 @@ pub entries-join : (name : List ℕ) → Joins (appended-entries name)
 entries-join name xs ys =
     ap (map (append name)) (map-append entry_bytes xs ys) ∙ map-append (append name) (map entry_bytes xs) (map entry_bytes ys)
 
--- the file of what is there was written
+-- the file of evidence that exists was written
 pub file-there : (word name : List ℕ) (o : Option (List ℕ)) (bytes : List ℕ) (old new : Outside) (r : Result (Unit {0}) Fault) →
     o ≡ Some bytes → word ≡ name → Follows (finding_actions (record { name = word; pieces = bytes ∷ [] })) old new r →
     Follows (findings_actions (file_of name o)) old new r
@@ -64,25 +64,25 @@ file-there word name o bytes old new r there is f =
     (subst (λ n. Follows (findings_actions (file_of n (Some bytes))) old new r) is
     (subst (λ plan. Follows plan old new r) (sym (append-nil (finding_actions (record { name = word; pieces = bytes ∷ [] })))) f))
 
--- the entry of the manifest that is there was appended
+-- the entry of a manifest that exists was appended
 pub entry-there : (name : List ℕ) (o : Option (List ℕ)) (manifest : List ℕ) (old new : Outside) (r : Result (Unit {0}) Fault) →
     o ≡ Some manifest → Follows (append name (entry_bytes manifest) ∷ []) old new r →
     Follows (appended-entries name (option_to_list o)) old new r
 entry-there name o manifest old new r there f =
     subst (λ (x : Option (List ℕ)). Follows (appended-entries name (option_to_list x)) old new r) (sym there) f
 
--- a manifest that is there is short where all are
+-- if all manifests are short, a manifest that exists is short
 pub short-there : (o : Option (List ℕ)) (manifest : List ℕ) → o ≡ Some manifest → IfSome o (λ m. length m < 2 ^ 16) → length manifest < 2 ^ 16
 short-there o manifest there short = subst (λ (x : Option (List ℕ)). IfSome x (λ m. length m < 2 ^ 16)) there short
 
--- the bytes of a short manifest's entry, which nothing stood before
+-- the bytes of a short manifest's entry, written to an empty buffer
 pub entry-is : (manifest before bytes : List ℕ) (len most : ℕ) → length manifest < 2 ^ 16 → most ≡ 65535 → len ≡ min (length manifest) most →
     before ≡ [] → bytes ≡ before ++ entry_bytes (take len manifest) → bytes ≡ entry_bytes manifest
 entry-is manifest before bytes len most short m least none is =
     let all : length manifest ≤ len = omega arith in
     is ∙ ap (λ xs. xs ++ entry_bytes (take len manifest)) none ∙ ap entry_bytes (take_all len manifest all)
 
--- a file was not made, or made and then not filled, by what its name is
+-- the file wasn't created, or it was created but not written; its name is equal to the given one
 pub unmade : (word name : List ℕ) (pieces : List (List ℕ)) (old new : Outside) (fault : Fault) → word ≡ name →
     Follows {T = Unit {0}} (create word ∷ []) old new (Err fault) →
     Follows {T = Unit {0}} (finding_actions (record { name = name; pieces = pieces })) old new (Err fault)

@@ -1,16 +1,16 @@
-//! The files of the evidence.
+//! Writing the evidence files.
 ghost use Rattle.std.specs.Prelude.{◌≡◌, ◌∷◌, [], IfOk, string_bytes};
-ghost use Rattle.bar_bytes.specs.Rooms.{kept_in};
+ghost use Rattle.bar_bytes.specs.Code.Rooms.{kept_in};
 ghost use Rattle.bar_outside.specs.Disk.{Content};
 ghost use Rattle.bar_outside.specs.Plan.{Outside, with_files};
-ghost use Rattle.bar_outside.specs.Follows.{Follows};
+ghost use Rattle.bar_outside.specs.Code.Follows.{Follows};
 ghost use Rattle.bar_findings.specs.Findings.{evidence_name, file_of, files_of, finding_actions, findings_actions};
 
 use bar_bytes::Rooms;
 use bar_outside::{Fault, Files, append_file, create_file};
 use std::alloc::{AllocError, Global};
 
-/// Creates a file for the evidence against each of so many parties, where there is some, in increasing order.
+/// Creates a file for the evidence against each of these parties, if there is any, in increasing order.
 pub fn write_evidence<F: Files>(
     alloc: Global,
     evidence: &Rooms,
@@ -27,7 +27,7 @@ pub fn write_evidence<F: Files>(
     Ok(())
 }
 
-/// Creates the file of the evidence against a party, where there is some.
+/// Creates the file of the evidence against a party, if there is any.
 fn write_party<F: Files>(
     alloc: Global,
     evidence: &Rooms,

@@ -1,8 +1,8 @@
-//! All that a party found.
-ghost use Rattle.bar_bytes.specs.Rooms.{kept_in};
+//! Writing everything that a party found.
+ghost use Rattle.bar_bytes.specs.Code.Rooms.{kept_in};
 ghost use Rattle.bar_outside.specs.Disk.{Content};
 ghost use Rattle.bar_outside.specs.Plan.{Outside, with_files};
-ghost use Rattle.bar_outside.specs.Follows.{Follows};
+ghost use Rattle.bar_outside.specs.Code.Follows.{Follows};
 ghost use Rattle.bar_findings.specs.Findings.{AreShort, findings_actions, findings_of};
 
 use crate::evidence::write_evidence;
@@ -11,8 +11,8 @@ use bar_bytes::Rooms;
 use bar_outside::{Fault, Files};
 use std::alloc::Global;
 
-/// Writes what a party found: the manifests of so many rounds, by round, and then the evidence against so many parties, by party. The word
-/// `found` begins the name of each file.
+/// Writes what a party found: the manifests of the first `rounds` rounds, by round, and then the evidence against the first `parties`
+/// parties, by party. The name of each file begins with `found`.
 pub fn write_findings<F: Files>(
     alloc: Global,
     manifests: &Rooms,

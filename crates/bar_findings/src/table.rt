@@ -1,11 +1,11 @@
-//! The file of the manifests.
+//! Writing the table file, which contains the manifests.
 ghost use Rattle.std.specs.Prelude.{◌≡◌, ◌∷◌, ◌^◌, ◌<◌, [], IfOk, length, map, string_bytes};
 ghost use Rattle.std.specs.Option.{option_to_list};
-ghost use Rattle.bar_bytes.specs.Rooms.{kept_in};
+ghost use Rattle.bar_bytes.specs.Code.Rooms.{kept_in};
 ghost use Rattle.bar_outside.specs.Disk.{Content};
 ghost use Rattle.bar_outside.specs.Plan.{Outside, with_files};
 ghost use Rattle.bar_outside.specs.Plan.Action.{append};
-ghost use Rattle.bar_outside.specs.Follows.{Follows};
+ghost use Rattle.bar_outside.specs.Code.Follows.{Follows};
 ghost use Rattle.bar_wire.specs.Grammar.{entry as entry_bytes};
 ghost use Rattle.bar_findings.specs.Findings.{AreShort, finding_actions, in_order, table_name, table_of};
 
@@ -14,14 +14,14 @@ use bar_judge::add_entry;
 use bar_outside::{Fault, Files, append_file, create_file};
 use std::alloc::{AllocError, Global};
 
-/// The name of the file of the manifests.
+/// The name of the table file.
 fn table_name(alloc: Global, found: &str) -> Result<String, AllocError>
     ensures { IfOk result (λ name. string_bytes name ≡ table_name found.now) }
 {
     format!(in alloc; "{found}.table")
 }
 
-/// Creates the file of the manifests of so many rounds, with an entry for each.
+/// Creates the table file with an entry for each manifest of the first `rounds` rounds.
 pub fn write_table<F: Files>(
     alloc: Global,
     manifests: &Rooms,
@@ -38,7 +38,7 @@ pub fn write_table<F: Files>(
     append_entries(alloc, manifests, rounds, name.as_str(), files)
 }
 
-/// Appends the entries of the manifests of so many rounds, in increasing order.
+/// Appends the entries of the manifests of the first `rounds` rounds, in increasing order.
 fn append_entries<F: Files>(
     alloc: Global,
     manifests: &Rooms,
@@ -56,7 +56,7 @@ fn append_entries<F: Files>(
     Ok(())
 }
 
-/// Appends the entry of the manifest of a round, where there is one.
+/// Appends the entry of the manifest of a round, if there is one.
 fn append_entry<F: Files>(
     alloc: Global,
     manifests: &Rooms,
@@ -84,7 +84,7 @@ fn append_manifest<F: Files>(
     ensures { (w : Outside) (was : Content) → length manifest.now < 2 ^ 16 → Follows (append name.now (entry_bytes manifest.now) ∷ [])
         (with_files w (F.disk files.old was)) (with_files w (F.disk files.new was)) result }
 {
-    // No manifest is longer than the two bytes of its length can say.
+    // The length of a manifest always fits two bytes.
     let len = manifest.len().min(usize::from(u16::MAX));
     let mut bytes = Vec::new(alloc);
     add_entry(&mut bytes, &manifest[..len])?;

@@ -1,9 +1,9 @@
-//! Changes of bytes: of datagrams and files, and of texts.
+//! Random changes of bytes: of datagrams, files and texts.
 
 use crate::drawing::Draw;
 use std::alloc::{AllocError, Global};
 
-/// Numbers at which a range ends, or a byte turns over.
+/// Numbers at the end of a range, or at which a byte overflows.
 const EDGES: [u32; 20] = [
     0,
     1,
@@ -27,15 +27,15 @@ const EDGES: [u32; 20] = [
     0xffff_ffff,
 ];
 
-/// How many bytes a number has that is set to one of them.
+/// The widths, in bytes, of numbers that are set to an edge.
 const WIDTHS: [usize; 3] = [1, 2, 4];
 
 const BITS: [u8; 8] = [1, 2, 4, 8, 16, 32, 64, 128];
 
-/// Among how many first bytes every other place is drawn: a datagram has its header there, and its first fields.
+/// Every other place is drawn among this many first bytes, which hold a datagram's header and first fields.
 const FRONT: usize = 28;
 
-/// A place in some bytes.
+/// A random place in bytes of this length.
 fn place_in(draw: &mut Draw, len: usize) -> usize {
     if draw.is_one_in(2) {
         draw.below(len.min(FRONT))
@@ -44,7 +44,7 @@ fn place_in(draw: &mut Draw, len: usize) -> usize {
     }
 }
 
-/// Writes bytes over those at a place, as far as there are any.
+/// Overwrites the bytes from a place on, and drops what is past the end.
 fn put_over(bytes: &mut [u8], at: usize, new: &[u8]) {
     for (before, byte) in new.iter().enumerate() {
         if let Some(place) = bytes.get_mut(at.saturating_add(before)) {
@@ -53,7 +53,7 @@ fn put_over(bytes: &mut [u8], at: usize, new: &[u8]) {
     }
 }
 
-/// Turns a bit, or puts another byte in its place, or the next or last number.
+/// Flips a bit of a byte, replaces the byte, or adds or subtracts 1.
 fn change_byte(draw: &mut Draw, bytes: &mut [u8]) {
     let at = place_in(draw, bytes.len());
     let bit = BITS.get(draw.below(BITS.len())).copied().unwrap_or(1);
@@ -69,7 +69,7 @@ fn change_byte(draw: &mut Draw, bytes: &mut [u8]) {
     }
 }
 
-/// Sets a number to one of the edges.
+/// Sets a number to one of `EDGES`.
 fn put_edge(draw: &mut Draw, bytes: &mut [u8]) {
     let edge = EDGES.get(draw.below(EDGES.len())).copied().unwrap_or(0);
     let width = WIDTHS.get(draw.below(WIDTHS.len())).copied().unwrap_or(1);
@@ -79,7 +79,7 @@ fn put_edge(draw: &mut Draw, bytes: &mut [u8]) {
     put_over(bytes, at, number.get(from..).unwrap_or(b""));
 }
 
-/// Adds some bytes behind, seldom more than a datagram can have.
+/// Appends some bytes, rarely more than a datagram can have.
 fn lengthen(draw: &mut Draw, bytes: &mut Vec<u8>) -> Result<(), AllocError> {
     if draw.is_one_in(500) {
         let len = draw.below(70_000).max(bytes.len());
@@ -93,7 +93,7 @@ fn lengthen(draw: &mut Draw, bytes: &mut Vec<u8>) -> Result<(), AllocError> {
     Ok(())
 }
 
-/// Leaves out a byte.
+/// Removes a byte.
 fn leave_out(draw: &mut Draw, bytes: &mut Vec<u8>) {
     let at = place_in(draw, bytes.len());
     if at < bytes.len() {
@@ -101,7 +101,7 @@ fn leave_out(draw: &mut Draw, bytes: &mut Vec<u8>) {
     }
 }
 
-/// Puts in a byte.
+/// Inserts a byte.
 fn put_in(draw: &mut Draw, bytes: &mut Vec<u8>) -> Result<(), AllocError> {
     let at = place_in(draw, bytes.len());
     let byte = draw.byte();
@@ -111,7 +111,7 @@ fn put_in(draw: &mut Draw, bytes: &mut Vec<u8>) -> Result<(), AllocError> {
     Ok(())
 }
 
-/// Puts the rest of others, from the same place or another one, behind a front.
+/// Keeps a prefix and appends a suffix of `other`, from the same place or another one.
 fn splice(draw: &mut Draw, bytes: &mut Vec<u8>, other: &[u8]) -> Result<(), AllocError> {
     let at = place_in(draw, bytes.len());
     let from = if draw.is_one_in(2) {
@@ -124,7 +124,7 @@ fn splice(draw: &mut Draw, bytes: &mut Vec<u8>, other: &[u8]) -> Result<(), Allo
     Ok(())
 }
 
-/// Writes some of others over some, at one place.
+/// Overwrites a part with the bytes of `other` at the same place.
 fn put_part(draw: &mut Draw, bytes: &mut [u8], other: &[u8]) {
     let at = place_in(draw, bytes.len());
     let until = at.saturating_add(draw.below(64));
@@ -132,7 +132,7 @@ fn put_part(draw: &mut Draw, bytes: &mut [u8], other: &[u8]) {
     put_over(bytes, at, part);
 }
 
-/// Changes some bytes once. The others are what they are spliced with.
+/// Makes one change to some bytes. Some changes splice in bytes of `other`.
 pub fn change(draw: &mut Draw, bytes: &mut Vec<u8>, other: &[u8]) -> Result<(), AllocError> {
     match draw.below(12) {
         0 => {
@@ -162,7 +162,7 @@ fn line_starts(alloc: Global, bytes: &[u8]) -> Result<Vec<usize>, AllocError> {
     Ok(starts)
 }
 
-/// Puts a digit in place of the next one from a place on.
+/// Replaces the first digit from a place on.
 fn change_digit(draw: &mut Draw, bytes: &mut [u8]) {
     let from = draw.below(bytes.len());
     let new = b"0123456789abcdefABCDEF"
@@ -177,7 +177,7 @@ fn change_digit(draw: &mut Draw, bytes: &mut [u8]) {
     }
 }
 
-/// What stands between lines of a text, or is no line of it.
+/// Lines that may occur between those of a text, or aren't allowed in it.
 const LINES: [&[u8]; 6] = [
     b"\n",
     b"# a note\n",
@@ -187,7 +187,7 @@ const LINES: [&[u8]; 6] = [
     b"[[peer]]\n",
 ];
 
-/// Drops a line of a text, doubles it, takes it to the end, or puts another before it.
+/// Drops a line of a text, doubles it, moves it to the end, or inserts another before it.
 fn change_line(draw: &mut Draw, alloc: Global, bytes: &mut Vec<u8>) -> Result<(), AllocError> {
     let starts = line_starts(alloc, bytes)?;
     let number = draw.below(starts.len());
@@ -222,7 +222,7 @@ fn change_line(draw: &mut Draw, alloc: Global, bytes: &mut Vec<u8>) -> Result<()
     Ok(())
 }
 
-/// Changes a text once.
+/// Makes one change to a text.
 pub fn change_text(
     draw: &mut Draw,
     alloc: Global,

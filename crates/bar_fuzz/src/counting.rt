@@ -1,24 +1,24 @@
-//! What is counted.
+//! Counts of what was tried and how it was answered.
 
 use bar_wire::WireFault;
 
-/// One more.
+/// Adds one to a count.
 pub fn add_one(count: &mut u64) {
     *count = count.saturating_add(1);
 }
 
-/// What came of changed datagrams.
+/// The results of changed datagrams.
 #[derive(Drop)]
 pub struct Tally {
     pub tried: u64,
-    /// Those that are no datagrams, by their faults.
+    /// Those that don't decode, by their faults.
     pub faults: [u64; 7],
     pub read: u64,
-    /// Those with a signature, for the party that took them or for all: no others are verified.
+    /// Those with a signature, addressed to the party that took them or to all. No others are verified.
     pub checkable: u64,
-    /// Those that their sender's key signed anew.
+    /// Those signed again with their sender's key.
     pub signed: u64,
-    /// Those that were answered, and by how many datagrams.
+    /// Those that were answered, and the number of datagrams in the answers.
     pub answered: u64,
     pub sent: u64,
     /// Those that left evidence.
@@ -55,11 +55,11 @@ impl Tally {
     }
 }
 
-/// What came of changed bytes that a call reads.
+/// The results of changed bytes that a call reads.
 #[derive(Clone, Copy)]
 pub struct Trials {
     pub tried: u64,
-    /// Those for which a signature may be verified, or a key is made.
+    /// Those for which a signature may be verified, or a key made.
     pub costly: u64,
     pub accepted: u64,
 }
@@ -81,7 +81,7 @@ impl Trials {
     }
 }
 
-/// Whether one more of so many may be costly, where one in so many is.
+/// Whether one more trial may be costly, if at most one in `one_in` may be.
 pub fn may_cost(costly: u64, tried: u64, one_in: u64) -> bool {
     costly.saturating_mul(one_in) <= tried
 }

@@ -1,4 +1,4 @@
-//! Sessions in memory. Before each datagram that is delivered, its receiver gets many that are changed.
+//! Runs of sessions in memory. Before each datagram that is delivered, its receiver gets many changed ones.
 
 use crate::changes::change;
 use crate::counting::{Tally, add_one, may_cost};
@@ -15,35 +15,35 @@ use bar_seal::{Scheme, Verifier};
 use bar_wire::{EVERYONE, Input, Shape};
 use std::alloc::{AllocError, Global};
 
-/// Of how many datagrams one may reach the verifier.
+/// One in this many changed datagrams may reach the verifier.
 const ONE_VERIFIED_IN: u64 = 150;
 
-/// Of how many datagrams one is signed anew.
+/// One in this many changed datagrams is signed again.
 const ONE_SIGNED_IN: usize = 500;
 
-/// Of how many datagrams that are sent one is lost.
+/// One in this many sent datagrams is lost.
 const ONE_LOST_IN: usize = 8;
 
-/// What serves all courses: what is drawn and counted, and rooms.
+/// The state that all courses share: random numbers, counts and buffers.
 #[derive(Drop)]
 pub struct Work {
     pub draw: Draw,
     pub tally: Tally,
     /// The datagram that is changed.
     pub made: Vec<u8>,
-    /// What is sent, and what is spelled anew.
+    /// The buffer for datagrams sent and datagrams encoded again.
     pub buf: Vec<u8>,
     /// Datagrams of other sessions.
     pub others: Vec<Vec<u8>>,
 }
 
-/// A session on its way.
+/// A running session.
 #[derive(Drop)]
 pub struct Course {
     pub shape: Shape,
-    /// What signs changed datagrams anew, where any are.
+    /// The keys that sign changed datagrams again, if any do.
     pub signers: Signers,
-    /// How many changed datagrams come before one that is delivered.
+    /// How many changed datagrams precede each one that is delivered.
     pub burst: usize,
     /// What was sent.
     pub sent: Vec<Parcel>,
@@ -53,7 +53,7 @@ pub struct Course {
     pub table: Vec<u8>,
 }
 
-/// One of the datagrams that were sent, or seldom one of another session.
+/// One of the datagrams that were sent, or sometimes one of another session.
 pub fn any_of<'a>(draw: &mut Draw, sent: &'a [Parcel], others: &'a [Vec<u8>]) -> &'a [u8] {
     if draw.is_one_in(8) {
         if let Some(other) = others.get(draw.below(others.len())) {
@@ -66,7 +66,7 @@ pub fn any_of<'a>(draw: &mut Draw, sent: &'a [Parcel], others: &'a [Vec<u8>]) ->
     }
 }
 
-/// What is changed: every other time the datagram that comes next.
+/// The datagram to change: every other time the one to be delivered next.
 fn base_of<'a>(
     draw: &mut Draw,
     datagram: &'a [u8],
@@ -80,7 +80,7 @@ fn base_of<'a>(
     }
 }
 
-/// Makes a changed datagram, of the one that comes next or of any other.
+/// Makes a changed datagram from the one to be delivered next or from any other.
 pub fn make_changed(work: &mut Work, sent: &[Parcel], datagram: &[u8]) -> Result<(), AllocError> {
     let Work {
         draw,
@@ -98,7 +98,7 @@ pub fn make_changed(work: &mut Work, sent: &[Parcel], datagram: &[u8]) -> Result
     Ok(())
 }
 
-/// Puts the signature of a party on a message, in place of what stands behind it. The leaf is drawn, every other time among the first.
+/// Replaces what follows the message by a party's signature. The leaf is drawn at random, every other time among the first 18.
 fn sign(
     alloc: Global,
     draw: &mut Draw,
@@ -120,7 +120,7 @@ fn sign(
     Ok(())
 }
 
-/// Signs what was made anew by its sender's key, where it is a signed datagram and there are keys.
+/// Signs the changed datagram again with its sender's key, if it decodes as a signed datagram and there are keys.
 pub fn sign_anew(
     alloc: Global,
     work: &mut Work,
@@ -146,12 +146,12 @@ pub fn sign_anew(
     Ok(())
 }
 
-/// Whether what was made may be verified by this party.
+/// Whether this party may verify the changed datagram.
 fn is_checkable(told: Told, party: u16) -> bool {
     told.is_signed && (told.to == party || told.to == EVERYONE)
 }
 
-/// Counts what was made by what it is read as. Where too many would be verified, it loses its last byte.
+/// Counts the changed datagram by how it decodes. If too many would be verified, it loses its last byte.
 fn count_read(work: &mut Work, shape: &Shape, party: u16) -> Result<(), Stop> {
     add_one(&mut work.tally.tried);
     let told = match read_again(&work.made, shape, &mut work.buf)? {
@@ -178,7 +178,7 @@ fn count_read(work: &mut Work, shape: &Shape, party: u16) -> Result<(), Stop> {
     Ok(())
 }
 
-/// Lets a party take what was made, and counts what it answers and keeps.
+/// Lets a party take the changed datagram, and counts its answers and whether it keeps new evidence.
 fn tell(work: &mut Work, parties: &mut Parties, party: u16) -> Result<(), Stop> {
     let before = count_evidence(parties, party);
     let input = Input::Datagram(&work.made);
@@ -222,7 +222,7 @@ fn note(course: &mut Course, party: u16, input: Option<Vec<u8>>) -> Result<(), S
     Ok(())
 }
 
-/// Delivers a datagram, behind changed ones, unless it is lost.
+/// Delivers a datagram after changed ones, unless it is lost.
 fn deliver(
     alloc: Global,
     work: &mut Work,
@@ -240,10 +240,10 @@ fn deliver(
     note(course, to, Some(datagram))
 }
 
-/// More than a tick of these sessions sends.
+/// More datagrams than are sent in one tick of these sessions.
 const MANY: usize = 400;
 
-/// Delivers all that was sent from a place on, and what this sends.
+/// Delivers all datagrams sent from a place on, and those sent in response.
 fn deliver_all(
     alloc: Global,
     work: &mut Work,
@@ -293,7 +293,7 @@ fn add_manifests(parties: &Parties, course: &mut Course) -> Result<(), Stop> {
 /// How many ticks these sessions have.
 pub const TICKS: u32 = 64;
 
-/// What signs changed datagrams anew, if any are.
+/// The keys that sign changed datagrams again, if any do.
 fn signers_if(alloc: Global, text: &str, is_signing: bool) -> Result<Signers, Stop> {
     if is_signing {
         signers_of(alloc, text)
@@ -302,7 +302,7 @@ fn signers_if(alloc: Global, text: &str, is_signing: bool) -> Result<Signers, St
     }
 }
 
-/// A session of which nothing was sent yet.
+/// A session in which nothing was sent yet.
 fn course_of(alloc: Global, text: &str, burst: usize, is_signing: bool) -> Result<Course, Stop> {
     let shape = session_of(alloc, text)?.shape();
     let signers = signers_if(alloc, text, is_signing)?;
@@ -316,7 +316,7 @@ fn course_of(alloc: Global, text: &str, burst: usize, is_signing: bool) -> Resul
     })
 }
 
-/// Takes all ticks, each with all that is delivered behind it.
+/// Runs all ticks, each followed by all deliveries.
 fn take_ticks(
     alloc: Global,
     work: &mut Work,
@@ -331,7 +331,7 @@ fn take_ticks(
     add_manifests(parties, course)
 }
 
-/// Runs a session with its changed datagrams, and answers what was sent in it.
+/// Runs a session with its changed datagrams, and returns what was sent in it.
 pub fn run_course(
     alloc: Global,
     work: &mut Work,

@@ -1,6 +1,6 @@
-//! Numbers that a seed repeats.
+//! Pseudo-random numbers, determined by a seed.
 
-/// Numbers by SplitMix64.
+/// A SplitMix64 generator.
 #[derive(Drop)]
 pub struct Draw {
     state: u64,
@@ -18,13 +18,13 @@ impl Draw {
         mixed ^ (mixed >> 31)
     }
 
-    /// A number below this one, or 0 where it is 0.
+    /// A number below `bound`, or 0 if `bound` is 0.
     pub fn below(&mut self, bound: usize) -> usize {
         let number = self.number() as usize;
         if bound == 0 { 0 } else { number % bound }
     }
 
-    /// Whether the first of so many cases is drawn.
+    /// Whether the first of `cases` equally likely cases is drawn.
     pub fn is_one_in(&mut self, cases: usize) -> bool {
         self.below(cases) == 0
     }

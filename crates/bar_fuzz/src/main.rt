@@ -1,7 +1,7 @@
-//! Gives changed datagrams to the parties of sessions in memory, and changed files and texts to the calls that read them, and prints counts of
-//! the answers: `bar_fuzz SEED COUNT SESSION RECORDING EVIDENCE ..`. What is accepted is encoded again, by the same bytes. If it isn't, or if a
-//! party doesn't answer, the program ends with a message and status 1. A seed repeats all that is drawn. `bar` doesn't use it; tools/fuzz-core
-//! runs it.
+//! Gives changed datagrams to the parties of sessions in memory, and changed files and texts to the calls that read them, and prints counts
+//! of the results: `bar_fuzz SEED COUNT SESSION RECORDING EVIDENCE ..`. Accepted input must encode to the same bytes again. If it doesn't,
+//! or if a party doesn't answer, the program ends with a message and status 1. A seed determines all random choices. `bar` doesn't use it;
+//! tools/fuzz-core runs it.
 #![tactic(auto)]
 
 mod changes;
@@ -98,7 +98,7 @@ fn texts_of(alloc: Global) -> Result<Texts, Stop> {
     })
 }
 
-/// About so many datagrams are delivered in a session of these.
+/// About how many datagrams one of these sessions delivers.
 const DELIVERED: u64 = 200;
 
 /// The most changed datagrams before one that is delivered.
@@ -107,8 +107,8 @@ const LONGEST_BURST: u64 = 2_500;
 /// How many changed datagrams there are for each changed file or text.
 const ONE_TEXT_IN: u64 = 10;
 
-/// Runs sessions of each kind in turn until so many changed datagrams were taken, each with its share of files and texts behind it. In every
-/// other four some of the datagrams are signed anew.
+/// Runs sessions of each kind in turn until this many changed datagrams were taken. After each session its share of files and texts is
+/// tried. In every other group of four sessions some of the datagrams are signed again.
 fn run_all(
     alloc: Global,
     work: &mut Work,
@@ -116,7 +116,6 @@ fn run_all(
     readers: &mut Readers,
     count: u64,
 ) -> Result<u64, Stop> {
-    let kinds = 2 * texts.sessions.len();
     let burst = (count / (8 * DELIVERED)).min(LONGEST_BURST) as usize + 1;
     for number in 0..count {
         if work.tally.tried >= count {
@@ -125,7 +124,7 @@ fn run_all(
         let before = work.tally.tried;
         let place = (number % 8) as usize;
         let Some(text) = texts.sessions.get(place % 4) else {
-            return Err(Stop::Found("there are {kinds} kinds"));
+            return Err(Stop::Found("a session is missing"));
         };
         let course = run_course(alloc, work, text, burst, place < 4)?;
         let files = work.tally.tried.saturating_sub(before) / ONE_TEXT_IN + 1;
@@ -134,7 +133,7 @@ fn run_all(
     Ok(count)
 }
 
-/// Prints what came of changed datagrams.
+/// Prints the results of changed datagrams.
 fn show_tally(alloc: Global, tally: &Tally, out: &mut impl Write) -> io::Result<()> {
     let [short, magic, version, kind, session, length, field] = tally.faults;
     let faults = format!(in alloc;
@@ -149,7 +148,7 @@ fn show_tally(alloc: Global, tally: &Tally, out: &mut impl Write) -> io::Result<
     out.write_all(line.as_bytes())
 }
 
-/// Prints what came of the changed bytes of a call.
+/// Prints the results of the changed bytes of a call.
 fn show_trials(alloc: Global, name: &str, trials: &Trials, out: &mut impl Write) -> io::Result<()> {
     let (tried, costly, accepted) = (trials.tried, trials.costly, trials.accepted);
     let line = format!(in alloc; "{name} tried {tried} costly {costly} accepted {accepted}\n")?;
@@ -165,7 +164,7 @@ fn show_readers(alloc: Global, readers: &Readers, out: &mut impl Write) -> io::R
     show_trials(alloc, "key", &readers.key, out)
 }
 
-/// What serves all sessions, with the datagrams of others.
+/// The state that all sessions share, with datagrams of other sessions.
 fn work_of<R: rt::Files + AllocGlobal>(
     rt: &R,
     seed: u64,
@@ -185,7 +184,7 @@ fn work_of<R: rt::Files + AllocGlobal>(
     })
 }
 
-/// Runs all sessions, and prints what came of them.
+/// Runs all sessions, and prints the results.
 fn run_and_show(
     alloc: Global,
     work: &mut Work,
@@ -201,7 +200,7 @@ fn run_and_show(
     Ok(())
 }
 
-/// Does what the arguments ask for.
+/// Runs what the arguments ask for.
 fn run_words<R: rt::Files + AllocGlobal>(
     rt: &R,
     words: &[String],
@@ -217,7 +216,7 @@ fn run_words<R: rt::Files + AllocGlobal>(
     run_and_show(rt.alloc(), &mut work, count, out)
 }
 
-/// The exit status if the program ends before all is tried.
+/// The exit status if the program stops early.
 const STOPPED: u8 = 1;
 
 fn main(rt: HostRuntime) -> ExitCode {

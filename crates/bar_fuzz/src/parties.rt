@@ -1,8 +1,8 @@
-//! The broadcaster of a session and its two peers, their keys, and all that they give out.
+//! The broadcaster and the two peers of a session, their keys, and their outputs.
 ghost use Rattle.std.specs.Prelude.{◌≡◌, ◌<◌, [], IfOk};
 ghost use Rattle.bar_hss.specs.Files.{IsPartyKeyOf};
-ghost use Rattle.bar_core.specs.Orders.{left_in};
-ghost use Rattle.bar_peer.specs.StandsFor.{contents_left};
+ghost use Rattle.bar_core.specs.Code.Orders.{left_in};
+ghost use Rattle.bar_peer.specs.Code.StandsFor.{contents_left};
 
 use crate::stop::Stop;
 use bar_bytes::Steps;
@@ -36,21 +36,21 @@ impl Parties {
     }
 }
 
-/// What signs for them, from party 0 on.
+/// The signature schemes of the parties, from party 0 on.
 #[derive(Drop)]
 pub struct Signers {
     schemes: Vec<SessionScheme>,
 }
 
 impl Signers {
-    /// What signs for no party.
+    /// Signers for no party.
     pub fn none(alloc: Global) -> Signers {
         Signers {
             schemes: Vec::new(alloc),
         }
     }
 
-    /// What signs for a party, if anything does.
+    /// The signature scheme of a party, if there is one.
     pub fn of(&self, party: u16) -> Option<&SessionScheme> {
         self.schemes.get(usize::from(party))
     }
@@ -63,7 +63,7 @@ pub fn session_of(alloc: Global, text: &str) -> Result<Session, Stop> {
     Ok(session)
 }
 
-/// What the key text of a party says, whose secret is 32 times its number and 7 more.
+/// The data of a party's key text. Each of the 32 bytes of its secret is its number plus 7.
 pub fn key_data(session: &Session, party: u8) -> KeyData {
     let shape = session.shape();
     let params = session.params();
@@ -165,10 +165,10 @@ fn step_caster(caster: &mut Caster<SessionScheme>, input: Input<'_>) -> Result<(
     Ok(())
 }
 
-/// More than any input gives out.
+/// More outputs than any input causes.
 const MANY: usize = 200;
 
-/// Lets a peer play all that it plays now.
+/// Lets a peer play all that is due now.
 fn play_all(peer: &mut Peer<SessionScheme>) {
     for _ in 0..MANY {
         if peer.next_played().is_none() {
@@ -177,7 +177,7 @@ fn play_all(peer: &mut Peer<SessionScheme>) {
     }
 }
 
-/// The room of the largest datagram.
+/// A buffer for the largest datagram.
 pub fn room(alloc: Global) -> Result<Vec<u8>, AllocError> {
     vec![in alloc; 0; usize::from(LARGEST_DATAGRAM)]
 }
@@ -197,7 +197,7 @@ fn peer_at<'a>(parties: &'a mut Parties, party: u16) -> Result<&'a mut Peer<Sess
     }
 }
 
-/// The next datagram that a party sends, which is written to a buffer: its receiver and its length.
+/// Writes the next datagram that a party sends to a buffer, and returns its receiver and length.
 fn next_of(
     parties: &mut Parties,
     party: u16,
@@ -213,7 +213,7 @@ fn next_of(
     }
 }
 
-/// Lets a party take an input, which is answered whatever it is.
+/// Lets a party take an input. A party must handle any input.
 fn take(parties: &mut Parties, party: u16, input: Input<'_>) -> Result<(), Stop> {
     if party == 0 {
         return step_caster(caster_at(parties)?, input);
@@ -242,7 +242,7 @@ pub fn count_sends(
     Err(Stop::Found("an input is answered without an end"))
 }
 
-/// Lets a party take an input, and adds what it sends.
+/// Lets a party take an input, and collects what it sends.
 pub fn add_sends(
     alloc: Global,
     parties: &mut Parties,

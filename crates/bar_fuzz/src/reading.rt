@@ -1,4 +1,4 @@
-//! Changed bytes for each call that reads files. What is accepted is spelled anew.
+//! Changed bytes for each call that reads files. Accepted bytes are encoded again.
 ghost use Rattle.std.specs.Prelude.{◌≡◌, ◌<◌, ◌≤◌, length};
 ghost use Rattle.bar_rules.specs.Verifiers.{IsVerifierOf, NamesLeavesOf};
 ghost use Rattle.bar_hss.specs.Chosen.{accepted_with, leaf_with, length_with};
@@ -21,7 +21,7 @@ use std::sync::ledger::{Blank, Ledger};
 
 // ---- evidence and verdicts
 
-/// The evidence of one or two datagrams, as a file has it.
+/// The evidence of one or two datagrams, in the file format.
 pub fn joined(alloc: Global, one: &[u8], two: Option<&[u8]>) -> Result<Vec<u8>, AllocError> {
     let mut bytes = Vec::new(alloc);
     bytes.push(if two.is_some() { 2 } else { 1 })?;
@@ -69,10 +69,10 @@ fn judged(session: &Session, table: &Table, evidence: &EvidenceView<'_>) -> Verd
     verdict_counted::<Brand>(session, table, evidence, Blank::new(1))
 }
 
-/// Of how many pieces of evidence one may be verified.
+/// One in this many pieces of evidence may be verified.
 const ONE_JUDGED_IN: u64 = 20;
 
-/// Judges evidence, unless too much was verified. What is accepted is what shows a fault.
+/// Judges evidence, unless too much was verified. It counts as accepted if it shows a fault.
 fn try_verdict(session: &Session, table: &Table, evidence: &EvidenceView<'_>, trials: &mut Trials) {
     if read_all(evidence, &session.shape()).is_some() {
         if !may_cost(trials.costly, trials.tried, ONE_JUDGED_IN) {
@@ -127,7 +127,7 @@ fn read_counted<L: Ledger>(
     )
 }
 
-/// The table of a file, if it is one.
+/// The table of a file, if the file is valid.
 pub fn table_of(alloc: Global, bytes: &[u8], session: &Session) -> Result<Option<Table>, Stop> {
     match read_counted::<Brand>(alloc, bytes, session, Blank::new(1)) {
         Ok(table) => Ok(Some(table)),
@@ -136,7 +136,7 @@ pub fn table_of(alloc: Global, bytes: &[u8], session: &Session) -> Result<Option
     }
 }
 
-/// The file of the manifests that a table file has, each of which is read and spelled anew.
+/// The table file of the manifests in a table file, each of them decoded and encoded again.
 fn table_again(
     alloc: Global,
     bytes: &[u8],
@@ -161,10 +161,10 @@ fn table_again(
     Ok(again)
 }
 
-/// Of how many table files one may have a manifest verified.
+/// In one of this many table files a manifest may be verified.
 const ONE_TABLE_IN: u64 = 20;
 
-/// Whether the first entry is read as a datagram, so that it may be verified.
+/// Whether the first entry decodes as a datagram, so that it may be verified.
 fn has_entry(bytes: &[u8], shape: &Shape, out: &mut [u8]) -> Result<bool, Stop> {
     match first_of(bytes) {
         First::Entry(manifest, _) => Ok(read_again(manifest, shape, out)?.is_ok()),
@@ -200,7 +200,7 @@ pub fn try_table(
 
 // ---- recordings
 
-/// Adds the entry of an input, which is written to a room first.
+/// Appends the entry of an input, written to a buffer first.
 fn add_entry_of(input: &Input<'_>, bytes: &mut Vec<u8>, room: &mut [u8]) -> Result<(), AllocError>
     requires room { 65510 ≤ length room.old }
     requires datagram { IsInRange (plain_input input.now) }
@@ -210,7 +210,7 @@ fn add_entry_of(input: &Input<'_>, bytes: &mut Vec<u8>, room: &mut [u8]) -> Resu
     Ok(())
 }
 
-/// Adds the entry of an input. The room has place for the largest.
+/// Appends the entry of an input. The buffer must be large enough for the largest entry.
 pub fn add_input(input: &Input<'_>, bytes: &mut Vec<u8>, room: &mut [u8]) -> Result<(), Stop> {
     if room.len() < usize::from(LARGEST_DATAGRAM) + 3 {
         return Err(Stop::Found("a room is too small for an entry"));
@@ -254,7 +254,7 @@ pub fn try_recording(
 
 // ---- sessions
 
-/// The text of a session, by what it tells.
+/// The text of a session, made from its values.
 pub fn session_text(alloc: Global, session: &Session) -> Result<String, Stop> {
     let shape = session.shape();
     let params = session.params();
@@ -295,7 +295,7 @@ fn session_in(alloc: Global, bytes: &[u8]) -> Result<Option<Session>, Stop> {
     }
 }
 
-/// Reads bytes as a session's text. The text of what is read says the same again.
+/// Reads bytes as a session's text. The text of an accepted session must read as the same session.
 pub fn try_session(alloc: Global, bytes: &[u8], trials: &mut Trials) -> Result<(), Stop> {
     let Some(session) = session_in(alloc, bytes)? else {
         trials.add(false);
@@ -315,10 +315,10 @@ pub fn try_session(alloc: Global, bytes: &[u8], trials: &mut Trials) -> Result<(
 
 // ---- keys
 
-/// Of how many key texts one may have a key made of it.
+/// A key may be made from one of this many key texts.
 const ONE_KEY_IN: u64 = 200;
 
-/// Whether two keys say the same.
+/// Whether two keys have the same data.
 fn are_same(one: &KeyData, two: &KeyData) -> bool {
     one.party == two.party
         && one.id == two.id
@@ -330,7 +330,7 @@ fn are_same(one: &KeyData, two: &KeyData) -> bool {
         && one.spent == two.spent
 }
 
-/// Checks that the text of a key is read as the same key, and spelled by the same bytes again.
+/// Checks that the text of a key reads as the same key, and that this key gives the same text again.
 fn check_key(alloc: Global, key: &KeyData, session: &Session) -> Result<(), Stop> {
     let text = key.text(alloc)?;
     let Ok(again) = read_key(alloc, &text, session, false) else {

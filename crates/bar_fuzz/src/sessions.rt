@@ -1,4 +1,4 @@
-//! A session of one round, whose keys are quickly made.
+//! A session of one round, whose keys are fast to make.
 
 use crate::stop::Stop;
 use bar_lms::{Params, SecretKey};
@@ -24,7 +24,7 @@ fn lines_of(
     ])
 }
 
-/// The text of a session of two peers. The secret of a party is 32 times its number and 7 more.
+/// The text of a session of two peers. Each of the 32 bytes of a party's secret is its number plus 7.
 pub fn small_text(alloc: Global) -> Result<String, Stop> {
     let Ok(params) = Params::of_types(5, 1) else {
         return Err(Stop::Found("there are no such types"));

@@ -1,9 +1,9 @@
-//! What is read of a datagram is spelled by its bytes again.
+//! A check that an accepted datagram encodes to the same bytes again.
 
 use crate::stop::Stop;
 use bar_wire::{Shape, WireFault, decode, encode};
 
-/// What a datagram that is read says of itself.
+/// What a decoded datagram says about itself.
 #[derive(Clone, Copy)]
 pub struct Told {
     pub from: u16,
@@ -12,7 +12,7 @@ pub struct Told {
     pub message_len: usize,
 }
 
-/// What a datagram says of itself, or its fault. Its message, which is encoded anew, and its signature are all its bytes.
+/// What a datagram says about itself, or its fault. Checks that its message, encoded again, and its signature are all its bytes.
 pub fn read_again(
     bytes: &[u8],
     shape: &Shape,

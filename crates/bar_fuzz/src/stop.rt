@@ -1,16 +1,16 @@
-//! Why the program ends before all is tried.
+//! Why the program stops early.
 
 use std::alloc::{AllocError, AllocFailed};
 use std::{fmt, io};
 
-/// Why the program ends before all is tried.
+/// Why the program stops early.
 #[derive(Debug, Drop)]
 pub enum Stop {
     /// There is no memory left.
     NoMemory,
     /// A file or standard output failed.
     Failed(io::Error),
-    /// What was tried went wrong, or can't be tried.
+    /// A check failed, or a trial is impossible.
     Found(&'static str),
 }
 

@@ -1,4 +1,4 @@
-//! Changed files and texts, made of what a session sent and took.
+//! Changed files and texts, made from what a session sent and took.
 
 use crate::changes::{change, change_text};
 use crate::counting::Readers;
@@ -22,7 +22,7 @@ pub struct Texts {
     pub key: Vec<u8>,
 }
 
-/// A datagram that was sent, as it is, or changed, or also signed anew.
+/// A datagram that was sent: unchanged, changed, or changed and signed again.
 fn any_datagram(alloc: Global, work: &mut Work, course: &Course) -> Result<Vec<u8>, Stop> {
     let datagram = any_of(&mut work.draw, &course.sent, &work.others).to_vec(alloc)?;
     if work.draw.is_one_in(2) {
@@ -35,7 +35,7 @@ fn any_datagram(alloc: Global, work: &mut Work, course: &Course) -> Result<Vec<u
     Ok(work.made.to_vec(alloc)?)
 }
 
-/// Evidence of one or two datagrams that were sent, as they are or changed; now and then of one and what was changed of it and signed anew.
+/// Evidence of one or two datagrams that were sent, unchanged or changed. Sometimes it is of one and a changed copy that was signed again.
 fn any_piece(alloc: Global, work: &mut Work, course: &Course) -> Result<Vec<u8>, Stop> {
     let one = any_datagram(alloc, work, course)?;
     if work.draw.is_one_in(100) {
@@ -50,7 +50,7 @@ fn any_piece(alloc: Global, work: &mut Work, course: &Course) -> Result<Vec<u8>,
     Ok(joined(alloc, &one, Some(&two))?)
 }
 
-/// Tries so many pieces of evidence, whole and changed.
+/// Tries this many pieces of evidence, unchanged and changed.
 fn try_pieces(
     alloc: Global,
     work: &mut Work,
@@ -70,7 +70,7 @@ fn try_pieces(
     Ok(())
 }
 
-/// Tries so many changed table files.
+/// Tries this many changed table files.
 fn try_tables(
     alloc: Global,
     work: &mut Work,
@@ -91,7 +91,7 @@ fn try_tables(
     Ok(())
 }
 
-/// A recording of some of what the first peer took, one input behind the other.
+/// A recording of some consecutive inputs of the first peer.
 fn recording_of(
     alloc: Global,
     work: &mut Work,
@@ -114,7 +114,7 @@ fn recording_of(
     Ok(bytes)
 }
 
-/// Tries so many changed recordings.
+/// Tries this many changed recordings.
 fn try_recordings(
     alloc: Global,
     work: &mut Work,
@@ -135,7 +135,7 @@ fn try_recordings(
     Ok(())
 }
 
-/// Tries so many changed texts of sessions and of keys.
+/// Tries this many changed texts of sessions and of keys.
 fn try_texts(
     alloc: Global,
     work: &mut Work,
@@ -161,7 +161,7 @@ fn try_texts(
     Ok(())
 }
 
-/// Tries so many changed files and texts at each call, behind a session.
+/// Tries this many changed files and texts at each call, after a session.
 pub fn try_all(
     alloc: Global,
     work: &mut Work,

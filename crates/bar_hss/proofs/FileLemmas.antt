@@ -1,4 +1,4 @@
--- What is made of a key file signs and verifies as the session's scheme does.
+-- The scheme of a key file signs and verifies as the session's scheme does.
 use Rattle.std.proofs.Common.{◌≡◌, ◌∙◌, ℕ, Bool, true, List, Option, Some, None, Ok, refl, sym, ap, subst}
 use Rattle.std.specs.Prelude.{IsSome, option_map}
 use Rattle.std.proofs.lemmas.Option.{none-some}
@@ -117,7 +117,7 @@ double_signs s height secret k e is = record {
 
 -- ---- key files
 
--- what is made of a key of the session, where its public key and its anchor are the session's
+-- a key file that is made from a key of the session, if its public key and its anchor are the session's
 pub hss_key_file_of_session : (s : SessionData) (caster : Bool) (bytes : List ℕ) (k : KeyData) (file : HssKeyFile) → session_key_of s caster bytes ≡ Ok k
     → IsHssMadeFor s k.party k.secret file → fits s file.secrets.party file.secrets.secret ≡ true → IsHssKeyFileOf s caster file
 hss_key_file_of_session s caster bytes k file named made held =
@@ -130,7 +130,7 @@ hss_key_file_of_session s caster bytes k file named made held =
           (subst (λ (x : List ℕ). IsHssMadeFor s k.party x file) (sym secret) made);
     }
 
--- a party's key, where its parts come from a key file that is held
+-- a party's key, if its parts come from a key file that is held
 pub party_key : (s : SessionData) (caster : Bool) (secrets : Secrets) (chain : Chain) (k : PartyKey) → IsHeldBy s caster secrets
     → secrets ≡ secrets_in s secrets.party secrets.secret
     → chain ≡ record { secrets = secrets_in s secrets.party secrets.secret; rounds = s.shape.rounds } → SignsFor s secrets.secret k.scheme

@@ -11,7 +11,7 @@ use Rattle.bar_hss.specs.declared.key_file.HssKeyFile.{HssKeyFile}
 use Rattle.bar_hss.specs.declared.party_key.PartyKey.{PartyKey}
 use Rattle.bar_hss.specs.Chosen.{accepted_with, length_with, most_with, leaf_with, accepted_by, length_of, most_of, leaf_by, key_of, leaves_of, signed_by}
 
--- ---- what is made of a party's secret
+-- ---- keys that are computed from a party's secret
 
 -- The secrets, the signing key and the chain are those of a party's secret in a session whose signatures have two levels.
 pub record IsHssMadeFor (s : SessionData) (party : ℕ) (secret : List ℕ) (k : HssKeyFile) : Type 0 where
@@ -26,14 +26,14 @@ pub record IsHssKeyFileOf (s : SessionData) (caster : Bool) (k : HssKeyFile) : T
 
 -- ---- the scheme of a session
 
--- It accepts what the session's scheme accepts, within as many hashes, of signatures as long, and names the same leaves.
+-- It agrees with the session's scheme: it accepts the same signatures, names the same leaves, and has the same length and bound on hashes.
 pub record VerifiesFor (s : SessionData) (v : SessionVerifier) : Type 0 where
   pub accepts : (key message sig : List ℕ) → accepted_with v key message sig ≡ session.accepted_by s.top s.params key message sig
   pub names : (sig : List ℕ) → leaf_with v sig ≡ session.named_by s.top s.params sig
   pub length : length_with v ≡ session.length_by s.top s.params
   pub most : most_with v ≡ session.most_by s.top s.params
 
--- It signs as a secret does in the session, with as many leaves, and verifies as the session's scheme does.
+-- It signs as a secret does in the session, has as many leaves, and verifies as the session's scheme does.
 pub record SignsFor (s : SessionData) (secret : List ℕ) (k : SessionScheme) : Type 0 where
   pub key : key_of k ≡ key_in s secret
   pub signs : (leaf : ℕ) (message : List ℕ) → signed_by k leaf message ≡ session.signed_by s.top s.params s.shape.id secret leaf message
@@ -43,7 +43,7 @@ pub record SignsFor (s : SessionData) (secret : List ℕ) (k : SessionScheme) : 
   pub length : length_of k ≡ session.length_by s.top s.params
   pub most : most_of k ≡ session.most_by s.top s.params
 
--- The keys are of the broadcaster or of a peer of the session, as asked for, and the session holds what comes from the secret.
+-- The keys are of the broadcaster or of a peer of the session, as asked for, and the session holds the public values of the secret.
 pub record IsPartyKeyOf (s : SessionData) (caster : Bool) (k : PartyKey) : Type 0 where
   pub held : IsHeldBy s caster k.secrets
   pub chain : k.chain ≡ record { secrets = k.secrets; rounds = s.shape.rounds }

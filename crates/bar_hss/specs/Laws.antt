@@ -1,4 +1,4 @@
--- What a secret key of two levels signs is accepted under its public key, has its length, and names its leaf.
+-- The signatures of a secret key of two levels are accepted under its public key, have their length, and name their leaf.
 use Rattle.std.proofs.Common.{◌≡◌, ℕ, ◌<◌, true, List, length}
 use Rattle.bar_lms.specs.Hss.{HssSecret, hss_leaf_in, hss_leaves, hss_public_key, hss_signature_len, hss_signed, is_hss_accepted}
 use Rattle.bar_lms.proofs.HssLemmas.{hss_accepted, hss_long, hss_leaf}

@@ -17,7 +17,7 @@ pub enum SessionVerifier {
     Double(HssVerifier),
 }
 
-/// What signs for a party of a session.
+/// The scheme that signs for a party of a session.
 #[derive(Drop)]
 pub enum SessionScheme {
     Single(LmsScheme),
@@ -38,10 +38,10 @@ impl SessionVerifier {
 }
 
 impl SessionScheme {
-    /// Remembers what signs under so many leaves that follow one another, in place of what was remembered.
+    /// Remembers the values for signing under several consecutive leaves, in place of what was remembered.
     ///
-    /// A message under one of these leaves is then signed without a lower tree, and the same message again without a step in a chain. All
-    /// memory is taken here.
+    /// A message under one of these leaves is then signed without computing a lower tree, and the same message again without a step of a
+    /// chain. All memory is allocated here.
     pub fn remember(&mut self, alloc: Global, leaves: u16) -> Result<(), AllocError>
         ensures { self.new ≡ self.old }
     {

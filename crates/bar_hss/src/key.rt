@@ -18,7 +18,7 @@ use std::alloc::{AllocError, Global};
 use std::cell::RefCell;
 use std::marker::Model;
 
-/// A secret key of two levels, with its upper tree, and what it remembers of its lower trees and of its signatures.
+/// A secret key of two levels, with its upper tree, and the lower trees and chain values that it remembers.
 #[derive(Drop)]
 pub struct HssKey {
     top: Params,
@@ -74,7 +74,7 @@ impl HssKey {
 
     /// The key of a party's secret in the session with this id: an upper tree of the types `top` over trees of the types `low`.
     ///
-    /// The upper tree is computed here. A lower one is computed whenever it signs, but for those that are remembered.
+    /// The upper tree is computed here. A lower tree is computed each time it signs, unless it is remembered.
     pub fn make(
         alloc: Global,
         top: Params,
@@ -106,11 +106,10 @@ impl HssKey {
         })
     }
 
-    /// Remembers the trees of so many leaves that follow one another and the chain values of their last signatures, in place of what was
-    /// remembered.
+    /// Remembers the trees of several consecutive leaves and the chain values of their last signatures, in place of what was remembered.
     ///
-    /// A message under one of these leaves is then signed without a lower tree, and the same message again without a step in a chain. All
-    /// memory is taken here.
+    /// A message under one of these leaves is then signed without computing a lower tree, and the same message again without a step of a
+    /// chain. All memory is allocated here.
     pub fn remember(&mut self, alloc: Global, leaves: u16) -> Result<(), AllocError>
         ensures { self.new ≡ self.old }
     {
@@ -164,7 +163,7 @@ impl HssKey {
         public_key(self.top, &self.ident, &root)
     }
 
-    // Writes the signature of a lower tree's public key from a byte on.
+    // Writes the signature of a lower tree's public key, from offset `at` on.
     fn put_upper(&self, j: u32, key: &[u8; 56], out: &mut [u8], at: usize)
         requires leaf { j < leaves_of self.now.top }
         requires key { key.now ≡ lower_key self.now j }
@@ -191,7 +190,7 @@ impl HssKey {
         );
     }
 
-    // Writes the number of signed public keys, and the public key of a lower tree behind its signature.
+    // Writes the number of signed public keys, and the public key of a lower tree after its signature.
     fn put_front(&self, j: u32, key: &[u8; 56], out: &mut [u8])
         requires leaf { j < leaves_of self.now.top }
         requires key { key.now ≡ lower_key self.now j }
@@ -205,7 +204,7 @@ impl HssKey {
         put_key(out, 4 + self.top.sig_len(), key);
     }
 
-    // The upper leaf of a leaf.
+    // The upper leaf over a leaf.
     fn upper_leaf(&self, leaf: u32) -> u32
         requires { leaf < hss_leaves self.now.top self.now.low }
         ensures value { result ≡ leaf / leaves_of self.now.low }
@@ -217,7 +216,7 @@ impl HssKey {
         leaf / 32
     }
 
-    // Writes the signature of a message under a leaf, whose tree is at hand.
+    // Writes the signature of a message under a leaf of the given tree.
     fn sign_with(&self, tree: &LowerTree, leaf: u32, message: &[u8], out: &mut [u8]) -> usize
         requires leaf { leaf < hss_leaves self.now.top self.now.low }
         requires tree { tree.now ≡ lower_of self.now (leaf / leaves_of self.now.low) }
@@ -238,7 +237,7 @@ impl HssKey {
         at + self.low.sig_len()
     }
 
-    /// Writes the signature of a message under a leaf (RFC 8554, 6.2), and answers its length.
+    /// Writes the signature of a message under a leaf (RFC 8554, 6.2), and returns its length.
     pub fn sign(&self, leaf: u32, message: &[u8], out: &mut [u8]) -> usize
         requires leaf { leaf < hss_leaves self.now.top self.now.low }
         requires room { hss_signature_len self.now.top self.now.low ≤ length out.old }

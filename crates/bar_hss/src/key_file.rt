@@ -14,7 +14,7 @@ use bar_seeds::{Secrets, SeedChain};
 use bar_wire::Shape;
 use std::alloc::{AllocError, Global};
 
-/// What a party of a session whose signatures have two levels holds: its secret, its signing key and its seeds.
+/// The contents of a key file of a party in a session whose signatures have two levels: its secret, its signing key and its seeds.
 #[derive(Drop)]
 pub struct HssKeyFile {
     pub secrets: Secrets,
@@ -34,7 +34,7 @@ fn upper_types(session: &Session) -> Params
 impl HssKeyFile {
     ghost use Rattle.bar_hss.specs.Files.{IsHssKeyFileOf, IsHssMadeFor};
 
-    // The keys of a party's secret in the session, made anew.
+    // The keys of a party's secret in the session, computed from it.
     fn make(alloc: Global, session: &Session, key: &KeyData) -> Result<HssKeyFile, AllocError>
         requires double { IsSome session.now.top }
         ensures { IfOk result (λ k. IsHssMadeFor session.now key.now.party key.now.secret k) }
@@ -51,7 +51,7 @@ impl HssKeyFile {
         })
     }
 
-    // The public key that comes from the secret.
+    // The public key of the secret.
     fn public_in(&self, session: &Session) -> [u8; 60]
         requires made { IsHssMadeFor session.now self.now.secrets.party self.now.secrets.secret self.now }
         requires double { IsSome session.now.top }
@@ -61,7 +61,7 @@ impl HssKeyFile {
         self.signer.public()
     }
 
-    // Whether the session holds the public key, and for a peer the anchor, that come from the secret.
+    // Whether the session holds the public key of the secret, and for a peer also its anchor.
     fn fits(&self, session: &Session) -> bool
         requires party { self.now.secrets.party ≤ session.now.shape.peers }
         requires made { IsHssMadeFor session.now self.now.secrets.party self.now.secrets.secret self.now }
@@ -73,7 +73,7 @@ impl HssKeyFile {
     }
 
     /// Reads the key text of a party of the session, whose signatures have two levels: the broadcaster's or a peer's, as asked for, and a
-    /// fresh one where one is asked for. It tells the first fault.
+    /// fresh one if that is asked for. It reports the first fault.
     pub fn read(
         alloc: Global,
         bytes: &[u8],

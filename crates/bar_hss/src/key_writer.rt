@@ -1,4 +1,4 @@
-//! The text of a key of two levels, written.
+//! Writing the text of a key of two levels.
 
 ghost use Rattle.std.specs.Prelude.{◌≡◌, IfOk, Ok, true};
 ghost use Rattle.bar_roster.specs.KeyText.{IsInRange, hss_key_data, key_read, key_text_of};
@@ -9,7 +9,7 @@ use std::alloc::{AllocError, Global};
 /// The text of a party's key in the session with this id, whose signatures have two levels: nine lines of TOML. The trees that sign
 /// messages have LMS type 5.
 ///
-/// It is read back as what it was written from, where the numbers are in the ranges of such a text.
+/// If the numbers are in the ranges of such a text, reading it gives back what it was written from.
 #[allow(clippy::too_many_arguments)]
 pub fn hss_key_text(
     alloc: Global,

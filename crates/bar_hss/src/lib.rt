@@ -1,4 +1,4 @@
-//! HSS of two levels (RFC 8554, 6): the leaves of one tree sign the public keys of trees of 32 leaves, which sign messages; and the scheme
+//! HSS of two levels (RFC 8554, 6): the leaves of one tree sign the public keys of trees of 32 leaves, which sign messages. Also the scheme
 //! and the key file of a session, of one level or of two.
 #![tactic(auto)]
 

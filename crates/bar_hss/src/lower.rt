@@ -1,4 +1,4 @@
-//! Trees of 32 leaves, whose public keys upper leaves sign.
+//! Trees of 32 leaves, whose public keys are signed by upper leaves.
 
 ghost use Rattle.std.specs.Prelude.{◌≡◌, IsTrue, ◌+◌, ◌*◌, ◌≤◌, ◌<◌, ◌++◌, length, take, drop};
 ghost use Rattle.bar_lms.specs.declared.params.Height.TheVariants.{H5};
@@ -10,7 +10,7 @@ use crate::writing::put_signature;
 use bar_lms::{Params, Place, fill_tree, public_key};
 use std::marker::Model;
 
-/// The nodes of a tree of 32 leaves; there is none at place 0.
+/// The places for the nodes of a tree of 32 leaves; place 0 has none.
 const PLACES: usize = 64;
 
 /// A tree of 32 leaves, in a fixed array.
@@ -67,7 +67,7 @@ impl LowerTree {
         public_key(self.params, &self.ident, &root)
     }
 
-    /// The same tree once more.
+    /// A copy of the tree.
     pub fn copied(&self) -> LowerTree
         ensures { result ≡ self.now }
     {
@@ -79,7 +79,7 @@ impl LowerTree {
         }
     }
 
-    /// Turns into the tree of a seed and a name, which is computed where it isn't this one.
+    /// Turns into the tree of a seed and a name, which is computed unless it is this one already.
     pub fn turn_to(&mut self, params: Params, seed: &[u8; 32], ident: &[u8; 16])
         requires { params.height ≡ H5 }
         ensures { self.new ≡ private_by params seed.now ident.now }
@@ -89,7 +89,7 @@ impl LowerTree {
         }
     }
 
-    /// Writes the signature of a message under a leaf from a byte on, by what a place remembers.
+    /// Writes the signature of a message under a leaf from an offset on, by the chain values that a place remembers.
     pub fn put(
         &self,
         leaf: u32,

@@ -12,7 +12,7 @@ use bar_seal::LmsScheme;
 use bar_seeds::{Secrets, SeedChain};
 use std::alloc::Global;
 
-/// What a party of a session holds: its secret, its seeds, and what signs for it.
+/// The contents of a party's key file: its secret, its seeds, and the scheme that signs for it.
 #[derive(Drop)]
 pub struct PartyKey {
     pub secrets: Secrets,
@@ -23,7 +23,7 @@ pub struct PartyKey {
 impl PartyKey {
     ghost use Rattle.bar_hss.specs.Files.{IsHssKeyFileOf, IsPartyKeyOf};
 
-    /// That of a key file of one level.
+    /// The keys of a key file of one level.
     pub fn single(file: KeyFile) -> PartyKey
         ensures secrets { result.secrets ≡ file.secrets }
         ensures fits { (s : SessionData) (caster : Bool) → s.top ≡ None → IsKeyFileOf s caster file → IsPartyKeyOf s caster result }
@@ -40,7 +40,7 @@ impl PartyKey {
         }
     }
 
-    /// That of a key file of two.
+    /// The keys of a key file of two levels.
     pub fn double(file: HssKeyFile) -> PartyKey
         ensures secrets { result.secrets ≡ file.secrets }
         ensures fits { (s : SessionData) (caster : Bool) → IsSome s.top → IsHssKeyFileOf s caster file → IsPartyKeyOf s caster result }
@@ -58,7 +58,7 @@ impl PartyKey {
     }
 
     /// Reads the key text of a party of the session, by the levels of its signatures: the broadcaster's or a peer's, as asked for, and a
-    /// fresh one where one is asked for. It tells the first fault.
+    /// fresh one if that is asked for. It reports the first fault.
     pub fn read(
         alloc: Global,
         bytes: &[u8],

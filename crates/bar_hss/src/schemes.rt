@@ -11,7 +11,7 @@ use bar_seal::{Scheme, Verifier};
 use std::alloc::{AllocError, Global};
 use std::sync::ledger::Ledger;
 
-/// Acceptance of signatures of two levels under public keys of these types. Under any other key nothing is accepted.
+/// Acceptance of signatures of two levels under public keys of these types. No signature is accepted under any other key.
 #[derive(Clone, Copy, Debug)]
 pub struct HssVerifier {
     pub top: Params,
@@ -79,7 +79,7 @@ impl HssScheme {
         HssScheme { key }
     }
 
-    /// Remembers the trees of so many leaves that follow one another and the chain values of their last signatures (`HssKey::remember`).
+    /// Remembers the trees of several consecutive leaves and the chain values of their last signatures (`HssKey::remember`).
     pub fn remember(&mut self, alloc: Global, leaves: u16) -> Result<(), AllocError>
         ensures { self.new ≡ self.old }
     {

@@ -4,7 +4,8 @@ use crate::lower::LowerTree;
 use std::alloc::{AllocError, Global};
 use std::cell::RefCell;
 
-/// Cells with lower trees. The cell of a tree is that of its upper leaf modulo their number; which tree a cell has is seen when it is asked.
+/// Cells with lower trees. The cell of a tree is that of its upper leaf modulo their number; which tree a cell has is checked when it is
+/// used.
 #[derive(Drop)]
 pub struct Trees {
     cells: Vec<RefCell<LowerTree>>,
@@ -18,7 +19,7 @@ impl Trees {
         }
     }
 
-    /// So many cells, each with this tree at first. All memory is taken here.
+    /// A number of cells, each with this tree at first. All memory is allocated here.
     pub fn make(alloc: Global, tree: &LowerTree, count: u16) -> Result<Trees, AllocError> {
         let mut cells = Vec::with_capacity(alloc, usize::from(count))?;
         for _ in 0..count {

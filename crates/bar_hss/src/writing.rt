@@ -8,7 +8,7 @@ ghost use Rattle.bar_lms.specs.Signature.{signature};
 
 use bar_lms::{Params, Place, sign_tree_at};
 
-/// Writes the signature of a message under a leaf of a tree from a byte on, by what a place remembers.
+/// Writes the signature of a message under a leaf of a tree from an offset on, by the chain values that a place remembers.
 pub fn put_signature(
     params: Params,
     seed: &[u8; 32],
@@ -43,7 +43,7 @@ pub fn put_signature(
     );
 }
 
-/// Writes a number at the front.
+/// Writes a number at the beginning.
 pub fn put_number(out: &mut [u8], number: u32)
     requires { 4 ≤ length out.old }
     ensures front { take 4 out.new ≡ to_be_bytes w32 number }
@@ -52,7 +52,7 @@ pub fn put_number(out: &mut [u8], number: u32)
     out[..4].copy_from_slice(&number.to_be_bytes());
 }
 
-/// Writes a public key at a place.
+/// Writes a public key at offset `at`.
 pub fn put_key(out: &mut [u8], at: usize, key: &[u8; 56])
     requires { at + 56 ≤ length out.old }
     ensures grown { take (at + 56) out.new ≡ take at out.old ++ key.now }

@@ -1,12 +1,12 @@
-//! Runs `peer` or `broadcaster` over files and a link in memory: `bar_in_memory SESSION KEY STREAM RECORDING PARTY NUMBER ..`. The link gives the
-//! inputs of a recording, and its calls with the numbers named, if any are, fail. The program prints how the command ended, its errors and its
-//! output, whether the link was bound, each datagram that was sent, and each file. After the command it takes no memory. `bar` doesn't use it.
-//! With it tools/check-nodes compares the two commands with expected values and their time with that of a replay, and tools/try-memory refuses
-//! memory to them.
+//! Runs `peer` or `broadcaster` over files and a link in memory: `bar_in_memory SESSION KEY STREAM RECORDING PARTY NUMBER ..`. The link
+//! gives the inputs of a recording, and those of its calls whose numbers are given fail. The program prints the command's exit status, its
+//! errors and its output, whether the link was bound, each datagram that was sent, and each file. After the command it allocates no memory.
+//! `bar` doesn't use it. tools/check-nodes uses it to compare the two commands with expected values, and their time with that of a replay.
+//! tools/try-memory uses it to refuse memory to them.
 #![tactic(auto)]
 
 ghost use Rattle.std.specs.Prelude.{◌≡◌};
-ghost use Rattle.bar_outside.specs.MemTaken as small;
+ghost use Rattle.bar_outside.specs.Code.MemTaken as small;
 
 use bar_cli::bar_run;
 use bar_outside::{LARGEST_PACKET, MemFiles, MemLink, MemSink, MemSpawner, MemTaken};
@@ -17,7 +17,7 @@ use std::alloc::{AllocError, Global};
 use std::io;
 use std::io::{ErrorKind, Write};
 
-/// What a link gives for the inputs of a recording.
+/// The inputs of a link that replays a recording.
 fn taken(alloc: Global, inputs: bar_record::Items<'_>) -> Result<Vec<MemTaken>, AllocError> {
     let mut list = Vec::new(alloc);
     for input in inputs {
@@ -29,7 +29,7 @@ fn taken(alloc: Global, inputs: bar_record::Items<'_>) -> Result<Vec<MemTaken>, 
     Ok(list)
 }
 
-/// Whether an item has no more bytes than a datagram can have.
+/// Whether an item is no longer than a datagram can be.
 fn is_small(item: &MemTaken) -> bool
     ensures { result ≡ small.is_small item.now }
 {
@@ -39,14 +39,14 @@ fn is_small(item: &MemTaken) -> bool
     }
 }
 
-/// Whether each item is so.
+/// Whether every item is small.
 fn are_small(list: &[MemTaken]) -> bool
     ensures { result ≡ small.are_small list.now }
 {
     list.iter().all(|item| is_small(item))
 }
 
-/// The error of arguments that can't be used.
+/// The error for arguments that can't be used.
 fn refused() -> io::Error {
     io::Error::from(ErrorKind::InvalidInput)
 }
@@ -63,7 +63,7 @@ fn numbers_of(alloc: Global, words: &[String]) -> io::Result<Vec<u64>> {
     Ok(numbers)
 }
 
-/// The link that gives the inputs of a party's recording, and of which these calls fail.
+/// The link that gives the inputs of a party's recording, and whose calls with these numbers fail.
 fn link_of(
     alloc: Global,
     session: &[u8],
@@ -86,7 +86,7 @@ fn link_of(
     Ok(MemLink::make(alloc, list, fail))
 }
 
-/// The words of a command over files in memory.
+/// The arguments of a command over files in memory.
 fn command_of(alloc: Global, party: u16) -> Result<Vec<String>, AllocError> {
     let line = if party == 0 {
         "broadcaster --session s --key k --begin 0 --stream t --found f"
@@ -103,7 +103,7 @@ fn command_of(alloc: Global, party: u16) -> Result<Vec<String>, AllocError> {
 /// How many bytes are printed at once.
 const PART: usize = 2_048;
 
-/// Prints bytes in hex, and the end of the line. It takes no memory.
+/// Prints bytes in hex, and a newline. It allocates no memory.
 fn show_hex(bytes: &[u8], out: &mut impl Write) -> io::Result<()> {
     let mut room = [0u8; 2 * PART];
     for part in bytes.chunks(PART) {
@@ -139,12 +139,12 @@ fn show_link(link: &MemLink, out: &mut impl Write) -> io::Result<()> {
     Ok(())
 }
 
-/// The files that there may be.
+/// The names of the files that may exist.
 const NAMES: [&str; 11] = [
     "s", "k", "t", "p", "r", "f.table", "f.1", "f.2", "f.3", "f.4", "f.5",
 ];
 
-/// What the program's arguments name.
+/// What the program's arguments ask for.
 #[derive(Drop)]
 struct Request<'a> {
     session: &'a str,
@@ -155,7 +155,7 @@ struct Request<'a> {
     fail: Vec<u64>,
 }
 
-/// The request of these arguments.
+/// Parses these arguments.
 fn request_of(alloc: Global, words: &[String]) -> io::Result<Request<'_>> {
     let [session, key, stream, recording, party, fail @ ..] = words else {
         return Err(refused());
@@ -173,7 +173,7 @@ fn request_of(alloc: Global, words: &[String]) -> io::Result<Request<'_>> {
     })
 }
 
-/// What a command leaves in memory.
+/// The results of a command in memory.
 #[derive(Drop)]
 struct Left {
     status: u8,
@@ -212,7 +212,7 @@ fn run(
     })
 }
 
-/// Prints what a command left.
+/// Prints the results of a command.
 fn show(left: &Left, out: &mut impl Write) -> io::Result<()> {
     let status = left.status;
     writeln!(out, "status {status}")?;

@@ -15,7 +15,7 @@ shown f true true o = refl
 shown f true false o = refl
 shown f false counted o = refl
 
--- what a test says of an opening of the exchange that the briefcase is of
+-- what a test says of an opening of the briefcase's exchange
 pub opening_told : (f : Opening → Bool) (s : Session) (table : Table) (m : Message) (c : Briefcase) (k : KeyGiven) (x : Exchange) (o : Option Opening)
     → x ≡ exchange_by c.round c.kind c.role m.from m.to
     → o ≡ then_some (terms_ok s no_lists x c.terms && counts_ok s c) (opening_of s table x c k.key)
@@ -27,7 +27,7 @@ opening_told f s table m c k x o is opened =
     ∙ shown f (terms_ok s no_lists (exchange_by c.round c.kind c.role m.from m.to) c.terms) (counts_ok s c)
     (opening_of s table (exchange_by c.round c.kind c.role m.from m.to) c k.key)
 
--- a test before others that holds
+-- a test that holds, before others
 pub before_one : (a b : Bool) → a ≡ true → b ≡ (a && b)
 before_one a b e = rw e refl
 

@@ -28,7 +28,7 @@ is_listed s (Key k) entry range is = absurd cc
 is_listed s (Evidence ds) entry range is = absurd cc
 is_listed s (Evict r ps) entry range is = absurd cc
 
--- a list of a round that had none, added behind the others, is the one of its round
+-- if a round had no list, a list of it that is added after the others is the one of its round
 pub digests_added : (lists : Lists) (entry : RoundList) (round : ℕ) → digests_of lists entry.0 ≡ None
     → digests_of (lists ++ entry ∷ []) round ≡ (if round == entry.0 then Some entry.1 else digests_of lists round)
 digests_added [] entry round none = elim (cases_Bool (round == entry.0)) [

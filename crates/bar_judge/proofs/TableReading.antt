@@ -54,9 +54,9 @@ length_entry (high ∷ []) manifest others is = absurd cc
 length_entry (high ∷ low ∷ rest) manifest others is =
     simp (length-append, length_u16) (omega (arith, length_sized (first_u16 (high ∷ low ∷ rest)) rest manifest others is))
 
--- ---- how far a reading has come
+-- ---- the progress of a reading
 
--- what is read of the whole is some lists, which a table has, and what is read of the rest
+-- what is read of the whole is some lists, which a table contains, and what is read of the rest
 pub record IsReadTo (s : Session) (whole : List ℕ) (i last : ℕ) (rest : List ℕ) (table : Lists) : Type 0 where
   pub lists : Lists
   pub read : table_of s whole ≡ after lists (lists_from (suc (length whole) - i) s last (length whole - length rest) rest)
@@ -77,7 +77,7 @@ read_none s whole table empty =
       within = omega arith;
     }
 
--- the reading goes on by what the rest begins with
+-- the reading continues with what the rest begins with
 read_by : (s : Session) (whole rest : List ℕ) (i last : ℕ) (table : Lists) (first : First) (h : IsReadTo s whole i last rest table) → i < length whole + 1
     → first_of rest ≡ first
     → table_of s whole ≡ after h.lists
@@ -88,7 +88,7 @@ read_by s whole rest i last table first h below is =
     (lists_step (suc (length whole) - i) s last (length whole - length rest) rest some
     ∙ ap (lists_by (λ round place others. lists_from (suc (length whole) - i - 1) s round place others) s last (length whole - length rest)) is)
 
--- the file ends behind an entry
+-- the file ends after an entry
 pub read_end : (s : Session) (whole rest : List ℕ) (i last : ℕ) (table : Lists) → IsReadTo s whole i last rest table → i < length whole + 1
     → first_of rest ≡ NoByte → HasLists (table_of s whole) (digests_of table)
 read_end s whole rest i last table h below is =
@@ -107,7 +107,7 @@ pub read_refused : (s : Session) (whole rest manifest others : List ℕ) (i last
 read_refused s whole rest manifest others i last table h below is none =
     read_by s whole rest i last table (Entry manifest others) h below is ∙ rw none refl
 
--- as many entries as may be read are read, and no end
+-- as many entries as allowed are read, without an end
 no_more : (s : Session) (last at : ℕ) (rest : List ℕ) → lists_from 0 s last at rest ≡ Err (BadEntry at)
 unfolding lists_from
 no_more s last at rest = refl
@@ -118,7 +118,7 @@ read_out s whole rest last table h =
     let none : suc (length whole) - (length whole + 1) ≡ 0 = omega arith in
     h.read ∙ ap (after h.lists) (ap (λ most. lists_from most s last (length whole - length rest) rest) none ∙ no_more s last (length whole - length rest) rest)
 
--- a table with the list of this round, and else those of another
+-- a table with the list of this round, and otherwise those of another table
 abbrev pub IsAdded : Lists → RoundList → Lists → Type 0
 IsAdded old entry new = (round : ℕ) → digests_of new round ≡ (if round == entry.0 then Some entry.1 else digests_of old round)
 
@@ -152,7 +152,7 @@ read_more s whole rest manifest others i last entry old new h below is listed la
 pub cost_of_round : (start now new most last round : ℕ) → now ≤ start + last * most → new ≤ now + most → last < round → new ≤ start + round * most
 cost_of_round start now new most last round before step above = omega (arith, mul-le-mul_right {m = suc last} {n = round} most (omega arith))
 
--- no step is taken behind the last round
+-- no step is taken after the last round
 pub cost_within : (start now new most last rounds : ℕ) → now ≤ start + last * most → new ≤ now + most → last ≤ rounds → (rounds ≤ last → new ≡ now)
     → new ≤ start + rounds * most
 cost_within start now new most last rounds before step within none = elim (cases_lt last rounds) [

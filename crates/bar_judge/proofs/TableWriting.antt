@@ -1,4 +1,4 @@
--- What is written as a table file is read again.
+-- What is written as a table file is read back.
 use Rattle.std.proofs.Common.{◌≡◌, ℕ, ◌+◌, ◌-◌, ◌<◌, ◌≤◌, ◌^◌, ◌++◌, List, [], ◌∷◌, length, refl, ap, ◌∙◌, arith, append_assoc, Option, Some, None, option_map, Ok, nat_le, true, length-append}
 use Rattle.std.specs.List.{AllByRecursion}
 use Rattle.std.proofs.lemmas.Bool.{le-leb}
@@ -68,7 +68,7 @@ read_back s (manifest ∷ manifests) lists most last at few are fit =
     (read_back s manifests others.0 (most - 1) entry.0 (at + length (entry_bytes manifest)) (omega arith) others.1 fit.1)
     ∙ ap Ok others.2))
 
--- where what gives a list fits, all do
+-- if the length of what gives a list fits, all lengths fit
 pub all_fit : (s : Session) (manifests : List (List ℕ)) (lists : Lists) (last : ℕ)
     → ((last : ℕ) (manifest : List ℕ) (entry : RoundList) → list_after s last manifest ≡ Some entry → length manifest < 2 ^ 16)
     → lists_of s last manifests ≡ Some lists → AllByRecursion (λ m. length m < 2 ^ 16) manifests

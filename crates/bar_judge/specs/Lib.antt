@@ -1,5 +1,3 @@
-pub mod Verdicts
+pub mod Code
 pub mod Texts
-pub mod Parts
 pub mod TableFile
-pub mod TableViews

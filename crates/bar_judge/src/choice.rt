@@ -1,8 +1,8 @@
 //! The choice of a partner by a REQUEST or a QUERY.
 ghost use Rattle.std.specs.Prelude.{◌≡◌, option_map};
 ghost use Rattle.bar_wire.specs.Bodies.{choice_in};
-ghost use Rattle.bar_wire.specs.Views.{plain};
-ghost use Rattle.bar_judge.specs.Parts.{plain_choice};
+ghost use Rattle.bar_wire.specs.Code.Views.{plain};
+ghost use Rattle.bar_judge.specs.Code.Parts.{plain_choice};
 
 use bar_window::XKind;
 use bar_wire::{Body, View};

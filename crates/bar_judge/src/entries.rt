@@ -1,11 +1,11 @@
 //! The first entry of a table file.
 ghost use Rattle.std.specs.Prelude.{◌≡◌};
 ghost use Rattle.bar_judge.specs.TableFile.{first_of, sized_first};
-ghost use Rattle.bar_judge.specs.TableViews.{plain_first};
+ghost use Rattle.bar_judge.specs.Code.TableViews.{plain_first};
 
 use bar_bytes::split_u16;
 
-/// What some bytes begin with: the bytes of a MANIFEST, and what follows them.
+/// The first entry of some bytes: the bytes of a MANIFEST, and what follows them.
 #[derive(Clone, Copy)]
 pub enum First<'a> {
     NoByte,
@@ -13,7 +13,7 @@ pub enum First<'a> {
     NoEntry,
 }
 
-/// So many bytes, and what follows them.
+/// The first `len` bytes, and what follows them.
 fn sized_first(len: u16, rest: &[u8]) -> First<'_>
     ensures { plain_first result ≡ sized_first len rest.now }
 {
@@ -25,7 +25,7 @@ fn sized_first(len: u16, rest: &[u8]) -> First<'_>
     First::Entry(manifest, rest)
 }
 
-/// What some bytes begin with.
+/// The first entry of some bytes.
 #[tactic(auto, unfolding(crate::specs::TableFile::first_of))]
 pub fn first_of(bytes: &[u8]) -> First<'_>
     ensures { plain_first result ≡ first_of bytes.now }

@@ -2,13 +2,13 @@
 ghost use Rattle.std.specs.Prelude.{◌≡◌, ◌+◌, ◌≤◌, true, IfSome, IsSome, option_map};
 ghost use Rattle.bar_terms.specs.Table.{digests_of};
 ghost use Rattle.bar_wire.specs.Bodies.{is_peer_kind};
-ghost use Rattle.bar_wire.specs.Views.{datagram, plain};
+ghost use Rattle.bar_wire.specs.Code.Views.{datagram, plain};
 ghost use Rattle.bar_rules.specs.Judge.Verdict.{fault_in_order, fault_of, fault_of_messages, fault_of_two};
 ghost use Rattle.bar_rules.specs.Verifiers.{NamesLeavesOf};
-ghost use Rattle.bar_seeds.specs.Checkpoints.{MovesOn};
+ghost use Rattle.bar_seeds.specs.Code.Checkpoints.{MovesOn};
 ghost use Rattle.bar_session.specs.Points.{AreSeeds};
-ghost use Rattle.bar_judge.specs.Parts.{IsRead, datagrams, choice_round_alone};
-ghost use Rattle.bar_judge.specs.Verdicts.{plain_fault};
+ghost use Rattle.bar_judge.specs.Code.Parts.{IsRead, datagrams, choice_round_alone};
+ghost use Rattle.bar_judge.specs.Code.Verdicts.{plain_fault};
 
 use crate::fault::Fault;
 use crate::leaves::is_leaf_twice;
@@ -74,8 +74,8 @@ pub(crate) fn fault_of_two<V: Verifier>(
     fault_of_messages(session, table, m, n)
 }
 
-/// The fault that one or two datagrams show, which are of kinds that peers sign, of one sender and with accepted signatures: the one that
-/// the verdict on their bytes shows, and `None` exactly where that verdict shows none. It counts the steps along the seeds.
+/// The fault that one or two datagrams show. They must be of kinds that peers sign, of one sender, and with accepted signatures. The result
+/// is the fault of the verdict on their bytes, and `None` if and only if that verdict shows none. It counts the steps along the seeds.
 #[tactic(auto, using(bar_seeds::proofs::CheckpointLemmas::moves_none))]
 pub fn found<V: Verifier, L: Ledger>(
     session: &Session,

@@ -1,4 +1,4 @@
-//! What holds of verdicts, of faults that are found, and of table files. These functions do nothing: what they ensure is a law.
+//! Laws of verdicts, of faults that are found, and of table files. These functions do nothing: what they ensure is a law.
 ghost use Rattle.std.specs.Prelude.{◌≡◌, ℕ, ◌<◌, ◌^◌, List, Some, Ok, length, true};
 ghost use Rattle.std.specs.List.{AllByRecursion, list_all};
 ghost use Rattle.bar_session.specs.Sessions.{IsSession};
@@ -11,15 +11,15 @@ ghost use Rattle.bar_judge.specs.TableFile.{RoundList, list_after, lists_of, tab
 
 use bar_wire::the_datagram_is_spelled;
 
-/// The verdict on the bytes of datagrams that are read, of one peer and accepted is what is found of them: the fault against their
-/// sender, or none.
+/// Let datagrams be read from bytes, of one peer, and have accepted signatures. Then the verdict on the bytes is what is found of the
+/// datagrams: the fault against their sender, or none.
 pub fn verdicts_are_what_is_found()
     ensures { (s : Session) (table : Table) (evidence : List (List ℕ)) (ds : List Datagram) → all_read s evidence ≡ Some ds
         → are_of_one_peer ds ≡ true → list_all (is_signed_by s) ds ≡ true
         → verdict s table evidence ≡ judged s table ds (fault_of s table ds) }
 {}
 
-/// The length of what gives a list fits the two bytes of an entry.
+/// The length of bytes that give a list fits the two bytes of an entry.
 pub fn manifests_fit_their_entries()
     ensures { (s : Session) (last : ℕ) (manifest : List ℕ) (list : RoundList) → IsSession s → list_after s last manifest ≡ Some list →
         length manifest < 2 ^ 16 }
@@ -27,12 +27,12 @@ pub fn manifests_fit_their_entries()
     the_datagram_is_spelled();
 }
 
-/// What is written as a table file is read from it again.
+/// A table file that is written is read back.
 pub fn written_tables_are_read_back()
-    // of a session
+    // for a session
     ensures session { (s : Session) (manifests : List (List ℕ)) (lists : Lists) → IsSession s → lists_of s 0 manifests ≡ Some lists →
         table_of s (table_bytes manifests) ≡ Ok lists }
-    // wherever the lengths fit
+    // for any lists, if the lengths fit
     ensures any { (s : Session) (manifests : List (List ℕ)) (lists : Lists) → lists_of s 0 manifests ≡ Some lists →
         AllByRecursion (λ m. length m < 2 ^ 16) manifests → table_of s (table_bytes manifests) ≡ Ok lists }
 {

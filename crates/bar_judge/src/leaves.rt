@@ -1,17 +1,17 @@
 //! Leaves that signed two messages.
 ghost use Rattle.std.specs.Prelude.{◌≡◌, ◌↔◌, IsTrue, true};
 ghost use Rattle.bar_wire.specs.Bodies.{is_peer_kind};
-ghost use Rattle.bar_wire.specs.Views.{datagram, plain};
+ghost use Rattle.bar_wire.specs.Code.Views.{datagram, plain};
 ghost use Rattle.bar_rules.specs.Judge.Verdict.{is_leaf_twice};
 ghost use Rattle.bar_rules.specs.Verifiers.{NamesLeavesOf};
-ghost use Rattle.bar_judge.specs.Parts.{IsRead};
+ghost use Rattle.bar_judge.specs.Code.Parts.{IsRead};
 
 use bar_roster::Session;
 use bar_seal::laws::identities_name_messages;
 use bar_seal::{Identity, Verifier, identity};
 use bar_wire::View;
 
-/// Whether two identities are one.
+/// Whether two identities are equal.
 fn is_same(one: Identity, two: Identity) -> bool
     ensures { IsTrue result ↔ (one ≡ two) }
 {

@@ -1,9 +1,9 @@
 //! The list that an entry of a table file gives.
 ghost use Rattle.std.specs.Prelude.{◌≡◌, ◌+◌, ◌%◌, ◌≤◌, IfSome, option_map, length};
-ghost use Rattle.bar_wire.specs.Views.{plain, AreWhole};
+ghost use Rattle.bar_wire.specs.Code.Views.{plain, AreWhole};
 ghost use Rattle.bar_rules.specs.Verifiers.{IsVerifierOf};
 ghost use Rattle.bar_judge.specs.TableFile.{list_after, list_in};
-ghost use Rattle.bar_judge.specs.TableViews.{plain_list, HasPlace};
+ghost use Rattle.bar_judge.specs.Code.TableViews.{plain_list, HasPlace};
 
 use crate::pair::is_accepted;
 use bar_bytes::Steps;
@@ -24,7 +24,8 @@ fn list_in<'a>(body: &Body<'a>) -> Option<(u32, &'a [u8])>
     }
 }
 
-/// The round and the digests of bytes that spell a MANIFEST of a round after the last one, with an accepted signature. It counts each hash.
+/// The round and the digests of bytes that encode a MANIFEST with an accepted signature, if its round is after the last one. It counts each
+/// hash.
 pub fn list_after<'a, V: Verifier, L: Ledger>(
     session: &Session,
     verifier: &V,

@@ -3,13 +3,13 @@ ghost use Rattle.std.specs.Prelude.{◌≡◌, ◌+◌, ◌≤◌, false, option
 ghost use Rattle.std.specs.Option.{option_map_or};
 ghost use Rattle.bar_terms.specs.Table.{digests_of};
 ghost use Rattle.bar_wire.specs.Bodies.{briefcase_in, choice_in};
-ghost use Rattle.bar_seeds.specs.Checkpoints.{MovesOn};
+ghost use Rattle.bar_seeds.specs.Code.Checkpoints.{MovesOn};
 ghost use Rattle.bar_session.specs.Points.{AreSeeds};
 ghost use Rattle.bar_wire.specs.Bodies.{choice_round};
-ghost use Rattle.bar_wire.specs.Views.{datagram, plain};
+ghost use Rattle.bar_wire.specs.Code.Views.{datagram, plain};
 ghost use Rattle.bar_rules.specs.Judge.Verdict.{bad_terms, fault_of_one, wrong_partner};
-ghost use Rattle.bar_judge.specs.Parts.{IsRead};
-ghost use Rattle.bar_judge.specs.Verdicts.{plain_fault};
+ghost use Rattle.bar_judge.specs.Code.Parts.{IsRead};
+ghost use Rattle.bar_judge.specs.Code.Verdicts.{plain_fault};
 
 use crate::briefcase::briefcase_of;
 use crate::choice::choice_of;
@@ -23,7 +23,7 @@ use bar_terms::{Table, terms_ok};
 use bar_wire::View;
 use std::sync::ledger::Ledger;
 
-/// Whether it is a CASE whose terms aren't valid under the table, or whose counts aren't those of its sender's promise.
+/// Whether the datagram is a CASE whose terms aren't valid under the table, or whose counts aren't those of its sender's promise.
 fn has_bad_terms(session: &Session, table: &Table, view: &View<'_>) -> bool
     requires read { IsRead session.now.shape view.now }
     ensures { result ≡ option_map_or (bad_terms session.now (digests_of table.now.lists) (datagram session.now.shape view.now).message)
@@ -42,8 +42,8 @@ fn has_bad_terms(session: &Session, table: &Table, view: &View<'_>) -> bool
     !has_counts(&case, cap)
 }
 
-/// Whether it is a REQUEST or a QUERY whose seed isn't its sender's of the round, or that is sent to another than the seed chooses. It
-/// counts the steps along the seeds.
+/// Whether the datagram is a REQUEST or a QUERY whose seed isn't its sender's of the round, or that isn't sent to the peer that the seed
+/// chooses. It counts the steps along the seeds.
 fn has_wrong_partner<L: Ledger>(session: &Session, view: &View<'_>, steps: &mut Steps<L>) -> bool
     requires read { IsRead session.now.shape view.now }
     ensures exact { result ≡ option_map_or (wrong_partner session.now (datagram session.now.shape view.now).message)
@@ -80,8 +80,8 @@ pub(crate) fn fault_of_one<L: Ledger>(
     None
 }
 
-/// Whether it is a REQUEST or a QUERY whose seed isn't its sender's of the round, or that is sent to another than the seed chooses, by what
-/// is kept of the peers' seeds. It counts the steps along the seeds.
+/// Whether the datagram is a REQUEST or a QUERY whose seed isn't its sender's of the round, or that isn't sent to the peer that the seed
+/// chooses, using the checkpoints of the peers' seeds. It counts the steps along the seeds.
 #[tactic(auto, using(bar_seeds::proofs::CheckpointLemmas::moves_none))]
 fn shows_wrong_partner<L: Ledger>(
     session: &Session,
@@ -106,7 +106,7 @@ fn shows_wrong_partner<L: Ledger>(
     session.partner_of(view.from, choice.seed, choice.kind) != view.to
 }
 
-/// What one datagram shows, by what is kept of the peers' seeds. It counts the steps along the seeds.
+/// What one datagram shows, using the checkpoints of the peers' seeds. It counts the steps along the seeds.
 #[tactic(auto, using(bar_seeds::proofs::CheckpointLemmas::moves_none))]
 pub(crate) fn found_in_one<L: Ledger>(
     session: &Session,

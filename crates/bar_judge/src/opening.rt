@@ -6,15 +6,15 @@ ghost use Rattle.bar_window.specs.Limits.{block_size, junk_size, most_items};
 ghost use Rattle.bar_window.specs.Terms.{plain_terms};
 ghost use Rattle.bar_terms.specs.Table.{digests_of, no_lists};
 ghost use Rattle.bar_terms.specs.Terms.{can_promise};
-ghost use Rattle.bar_terms.specs.Windows.{AreAligned, AreWindowsOf};
+ghost use Rattle.bar_terms.specs.Code.Windows.{AreAligned, AreWindowsOf};
 ghost use Rattle.bar_case.specs.Opened.{is_bad};
 ghost use Rattle.bar_wire.specs.Bodies.{briefcase_in, key_in};
 ghost use Rattle.bar_wire.specs.Datagram.{exchange_by};
-ghost use Rattle.bar_wire.specs.Views.{datagram, plain};
+ghost use Rattle.bar_wire.specs.Code.Views.{datagram, plain};
 ghost use Rattle.bar_wire.specs.declared.shape.Shape.{Shape};
 ghost use Rattle.bar_rules.specs.Judge.Verdict.{bad_opening, is_unknown_pair, key_fits};
 ghost use Rattle.bar_rules.specs.Values.{counts_ok, is_unknown, opening_of, terms_ok};
-ghost use Rattle.bar_judge.specs.Parts.{IsRead, plain_briefcase, plain_key};
+ghost use Rattle.bar_judge.specs.Code.Parts.{IsRead, plain_briefcase, plain_key};
 
 use crate::briefcase::{Briefcase, briefcase_of};
 use crate::given_key::{GivenKey, key_of};
@@ -46,7 +46,7 @@ fn is_key_for(m: &View<'_>, case: &Briefcase<'_>, n: &View<'_>, key: &GivenKey<'
     m.to == n.to && of_case == of_key && case.role == key.role
 }
 
-/// What a key shows of a briefcase of an exchange, where its terms are valid and its counts are those of its sender's promise.
+/// What a key shows of a briefcase of an exchange, if its terms are valid and its counts are those of its sender's promise.
 fn opening_by(
     session: &Session,
     table: &Table,
@@ -84,7 +84,7 @@ fn opening_by(
     ))
 }
 
-/// What the second datagram shows of the first, where they are a briefcase and a key for it that can be opened.
+/// What the second datagram shows of the first, if they are a briefcase that can be opened and a key for it.
 fn opening_of(session: &Session, table: &Table, m: &View<'_>, n: &View<'_>) -> Option<Opening>
     requires read { IsRead session.now.shape m.now }
     ensures bad { option_map_or is_bad result false ≡ bad_opening session.now (digests_of table.now.lists)
@@ -103,7 +103,7 @@ fn opening_of(session: &Session, table: &Table, m: &View<'_>, n: &View<'_>) -> O
     opening_by(session, table, x, &case, key.key)
 }
 
-/// Whether the two are a briefcase and a key for it, by which an item is not what was promised.
+/// Whether the two are a briefcase and a key for it, which show that an item is not what was promised.
 pub(crate) fn shows_bad_opening(
     session: &Session,
     table: &Table,
@@ -118,7 +118,7 @@ pub(crate) fn shows_bad_opening(
     matches!(opening_of(session, table, m, n), Some(Opening::Bad { .. }))
 }
 
-/// Whether the two are a briefcase and a key for it that shows no wrong item, while the table lacks the round of a promised update.
+/// Whether the two are a briefcase and a key for it that shows no wrong item, and the table lacks the round of a promised update.
 pub(crate) fn is_unknown_pair(session: &Session, table: &Table, m: &View<'_>, n: &View<'_>) -> bool
     requires read { IsRead session.now.shape m.now }
     ensures { result ≡ is_unknown_pair session.now (digests_of table.now.lists)

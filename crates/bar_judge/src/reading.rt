@@ -14,7 +14,7 @@ use bar_terms::Table;
 use std::alloc::Global;
 use std::sync::ledger::Ledger;
 
-/// Reads a table file of a session, or tells the place of its first bad entry. It counts each hash: a round has one verification at most.
+/// Reads a table file of a session, or reports the place of its first bad entry. It counts each hash: a round has at most one verification.
 pub fn read_table<V: Verifier, L: Ledger>(
     alloc: Global,
     bytes: &[u8],

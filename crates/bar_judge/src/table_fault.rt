@@ -7,7 +7,7 @@ use std::alloc::{AllocError, AllocFailed};
 /// The first fault of a table file.
 #[derive(Debug, Clone, Copy, PartialEq, Eq)]
 pub enum TableFault {
-    /// At this place, from 0, stands an entry that is cut, spells no MANIFEST, has no accepted signature, or is of a round that isn't above
+    /// The entry at this place, counted from 0, is cut, encodes no MANIFEST, has no accepted signature, or is of a round that isn't above
     /// the one before.
     BadEntry { at: u64 },
     /// Memory was refused.

@@ -1,7 +1,7 @@
 //! What a judge says.
 ghost use Rattle.std.specs.Prelude.{Some};
 ghost use Rattle.bar_judge.specs.Texts.{verdict_text};
-ghost use Rattle.bar_judge.specs.Verdicts.{plain_verdict};
+ghost use Rattle.bar_judge.specs.Code.Verdicts.{plain_verdict};
 
 use crate::fault::Fault;
 use crate::why::Why;

@@ -1,7 +1,7 @@
 //! Why a judge shows nothing.
 ghost use Rattle.std.specs.Prelude.{Some};
 ghost use Rattle.bar_judge.specs.Texts.{why_text};
-ghost use Rattle.bar_judge.specs.Verdicts.{plain_why};
+ghost use Rattle.bar_judge.specs.Code.Verdicts.{plain_why};
 
 use std::fmt;
 

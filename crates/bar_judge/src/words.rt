@@ -2,16 +2,16 @@
 ghost use Rattle.std.specs.Prelude.{◌≡◌, ◌≤◌, ℕ, true, option_map};
 ghost use Rattle.bar_window.specs.Limits.{most_life};
 ghost use Rattle.bar_window.specs.Terms.{plain_terms};
-ghost use Rattle.bar_window.specs.Window.{members};
+ghost use Rattle.bar_window.specs.Code.Window.{members};
 ghost use Rattle.bar_wire.specs.Bodies.{is_peer_kind};
 ghost use Rattle.bar_wire.specs.Datagram.{round_of};
-ghost use Rattle.bar_wire.specs.Views.{datagram, plain, AreWindows, AreTermWindows, IsWindowIn};
+ghost use Rattle.bar_wire.specs.Code.Views.{datagram, plain, AreWindows, AreTermWindows, IsWindowIn};
 ghost use Rattle.bar_wire.specs.declared.shape.Shape.{Shape as ShapeData};
 ghost use Rattle.bar_rules.specs.Judge.Verdict.{broken_commit, differs, fault_by_words, fault_by_case, is_twice, other_window, same_place};
 ghost use Rattle.bar_rules.specs.Member.{Session as RulesSession};
 ghost use Rattle.bar_wire.specs.Bodies.{briefcase_in};
-ghost use Rattle.bar_judge.specs.Parts.{IsRead};
-ghost use Rattle.bar_judge.specs.Verdicts.{plain_fault};
+ghost use Rattle.bar_judge.specs.Code.Parts.{IsRead};
+ghost use Rattle.bar_judge.specs.Code.Verdicts.{plain_fault};
 
 use crate::briefcase::{Briefcase, briefcase_of};
 use crate::fault::Fault;
@@ -21,7 +21,7 @@ use bar_seeds::commitment;
 use bar_window::{Exchange, Role, Terms, Window};
 use bar_wire::{Body, Shape, View, place_of};
 
-/// Whether they are different messages of one identity.
+/// Whether the two are different messages of one identity.
 fn is_twice(m: &View<'_>, n: &View<'_>) -> bool
     requires signed { is_peer_kind (plain m.now.body) ≡ true }
     ensures { (s : RulesSession) → IsRead s.shape m.now → IsRead s.shape n.now
@@ -43,7 +43,7 @@ fn is_other(one: &Window, two: &Window, life: u8) -> bool
     one.bytes()[..one.byte_len(life)] != two.bytes()[..two.byte_len(life)]
 }
 
-/// Whether a REQUEST's commitment isn't met by the nonce and the history of the initiator's briefcase.
+/// Whether the nonce and the history of the initiator's briefcase don't meet a REQUEST's commitment.
 fn breaks_commit(shape: &Shape, x: Exchange, body: &Body<'_>, case: &Briefcase<'_>) -> bool
     requires windows { AreTermWindows shape.now x.round case.now.terms }
     ensures { (s : RulesSession) → s.shape ≡ shape.now
@@ -102,7 +102,7 @@ fn differs(body: &Body<'_>, case: &Briefcase<'_>, shape: &Shape) -> bool
     }
 }
 
-/// Whether both are of one exchange.
+/// Whether both messages are of one exchange.
 fn is_of_one_exchange(m: &View<'_>, n: &View<'_>) -> bool
     ensures { (s : ShapeData) → result ≡ same_place (datagram s m.now).message (datagram s n.now).message }
 {

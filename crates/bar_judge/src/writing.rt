@@ -4,7 +4,7 @@ ghost use Rattle.bar_wire.specs.Grammar.{entry};
 
 use std::alloc::AllocError;
 
-/// Appends the entry of a MANIFEST to a table file. Where memory is refused, the file stays as it was.
+/// Appends the entry of a MANIFEST to a table file. If memory is refused, the file is unchanged.
 pub fn add_entry(out: &mut Vec<u8>, manifest: &[u8]) -> Result<(), AllocError>
     requires { length manifest.now ≤ 65535 }
     ensures ok { OnOk result (out.new.items ≡ out.old.items ++ entry manifest.now) }

@@ -1,4 +1,4 @@
-//! Makes keys of the given types, signs with one or verifies a signature, so many times, and prints the SHA-256 of the results.
+//! Makes keys of the given types, signs with one or verifies a signature, a given number of times, and prints the SHA-256 of the results.
 //! `bar` doesn't use it. tools/benchmark-keys builds it at two commits and compares their times.
 #![tactic(auto)]
 
@@ -19,7 +19,7 @@ const SECRET: [u8; 32] = [9; 32];
 
 const LONGEST_SIGNATURE: usize = 9004;
 
-/// The words behind the program's name.
+/// The arguments after the program's name.
 fn words_of<R: Env + AllocGlobal>(rt: &R) -> io::Result<Vec<String>> {
     let mut words = Vec::new(rt.alloc());
     for word in env::args(rt)?.skip(1) {
@@ -41,7 +41,7 @@ fn accepts(key: &PublicKey, message: &[u8], sig: &[u8]) -> bool {
     is_counted::<Brand>(key, message, sig, Blank::new(1))
 }
 
-/// Makes so many keys, and hashes them.
+/// Makes `count` keys, and hashes them.
 fn make_keys<R: AllocGlobal>(rt: &R, params: Params, count: u32) -> io::Result<[u8; 32]> {
     let mut hasher = Sha256::new();
     for number in 0..count {
@@ -53,7 +53,7 @@ fn make_keys<R: AllocGlobal>(rt: &R, params: Params, count: u32) -> io::Result<[
     Ok(hasher.finalize())
 }
 
-/// Signs so many numbers under the first leaf of a key, and hashes the signatures.
+/// Signs `count` numbers under the first leaf of a key, and hashes the signatures.
 fn sign_numbers<R: AllocGlobal>(rt: &R, params: Params, count: u32) -> io::Result<[u8; 32]> {
     let key = SecretKey::make(rt.alloc(), params, &ID, &SECRET)?;
     let mut out = [0u8; LONGEST_SIGNATURE];
@@ -65,7 +65,7 @@ fn sign_numbers<R: AllocGlobal>(rt: &R, params: Params, count: u32) -> io::Resul
     Ok(hasher.finalize())
 }
 
-/// Verifies a signature so many times, each time on another message, of which the first is the one that was signed.
+/// Verifies a signature `count` times, each time on another message. The first message is the one that was signed.
 fn verify_numbers<R: AllocGlobal>(rt: &R, params: Params, count: u32) -> io::Result<[u8; 32]> {
     let key = SecretKey::make(rt.alloc(), params, &ID, &SECRET)?;
     let Ok(public) = PublicKey::read(&key.public()) else {
@@ -97,7 +97,7 @@ struct Request {
     count: u32,
 }
 
-/// The request of these arguments: `key`, `sign` or `verify`, the LMS type, the LM-OTS type and a count.
+/// Parses the arguments: `key`, `sign` or `verify`, the LMS type, the LM-OTS type and a count.
 fn request_of(words: &[String]) -> Option<Request> {
     let [work, lms, ots, count] = words else {
         return None;

@@ -3,7 +3,7 @@ use Rattle.std.proofs.Common.{◌≡◌, ℕ, zero, suc, ◌*◌, ◌<◌, List,
 use Rattle.std.proofs.lemmas.List.{take_all}
 use Rattle.sha2.specs.Sha256.{digest_bytes, word_at}
 use Rattle.bar_lanes.specs.declared.beginning.Beginning.{Beginning}
-use Rattle.bar_lanes.specs.Lane.{Begins, IsScheduled, begin_lane, head_lane}
+use Rattle.bar_lanes.specs.Code.Lane.{Begins, IsScheduled, begin_lane, head_lane}
 use Rattle.bar_lanes.proofs.ScheduleLemmas.{word_of_head}
 use Rattle.bar_lanes.proofs.TailLemmas.{bytes_of_words, first_more, long_set}
 
@@ -11,7 +11,7 @@ pub head_length : (b : Beginning) (j : ℕ) → length (head_lane b j) ≡ 20
 unfolding head_lane digest_bytes
 head_length b j = refl
 
--- the first words of bytes are those of a block that begins so
+-- If a block begins with these bytes, their first words are those of the block.
 pub begins_alike : (block bytes : List ℕ) (j : ℕ) (words : Beginning) → take 20 block ≡ bytes → Begins bytes j words → Begins block j words
 begins_alike block bytes j words same b = record {
   first = b.first ∙ word_of_head block bytes 0 (omega arith) same;
@@ -21,7 +21,7 @@ begins_alike block bytes j words same b = record {
   fifth = b.fifth ∙ word_of_head block bytes 4 (omega arith) same;
 }
 
--- written into a schedule
+-- the first five words of a block, written into a schedule
 pub scheduled_five : (block : List ℕ) (j : ℕ) (head : Beginning) → Begins block j head → (ws : List (List ℕ)) → length ws ≡ 64
     → IsScheduled block j (slice_set (slice_set (slice_set (slice_set (slice_set ws 0 head.a) 1 head.b) 2 head.c) 3 head.d) 4 head.e) 5
 scheduled_five block j head b ws long =

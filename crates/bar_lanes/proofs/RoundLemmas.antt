@@ -4,7 +4,7 @@ use Rattle.std.proofs.lemmas.Nat.Bits.{bit_at-lt, bit_at_and, bit_at_xor, same_f
 use Rattle.std.specs.Int.{bit_at}
 use Rattle.sha2.specs.Sha256.{add32, maj}
 
--- the word and the constant first
+-- the word and the constant may be added first
 pub first_sum_is : (h s c k w : ℕ) → add32 (add32 (add32 h (add32 w k)) s) c ≡ add32 (add32 (add32 (add32 h s) c) k) w
 first_sum_is h s c k w = omega arith
 
@@ -21,7 +21,7 @@ most_bit x y z hx hy hz =
     let second : (p : ℕ) → Same p 0 z → Same p 1 z → Same p y z = λ p s0 s1. below_two (λ q. Same p q z) s0 s1 y hy in
     below_two (λ p. Same p y z) (second 0 (third 0 0 refl refl) (third 0 1 refl refl)) (second 1 (third 1 0 refl refl) (third 1 1 refl refl)) x hx
 
--- the bits that most of three have, by where the middle one differs from the others
+-- the majority of three, computed from where the middle one differs from the others
 pub most_is : (a b c : ℕ) → bit_xor (bit_and (bit_xor a b) (bit_xor b c)) b ≡ maj a b c
 most_is a b c = same_from_bits _ _ each
   where

@@ -4,15 +4,15 @@ use Rattle.std.proofs.lemmas.Bool.{cases_eq}
 use Rattle.std.proofs.lemmas.List.{get_or-set_same, get_or-set_other, get_or-take}
 use Rattle.sha2.specs.Sha256.{schedule, next_word, word_at, add32, small_sigma1}
 use Rattle.sha2.proofs.Schedule256.{slice_index-schedule_first, slice_index-schedule_next}
-use Rattle.bar_lanes.specs.Lane.{lane, lane_at, IsScheduled, late_at}
+use Rattle.bar_lanes.specs.Code.Lane.{lane, lane_at, IsScheduled, late_at}
 use Rattle.bar_lanes.proofs.LaneLemmas.{slice_index-lane}
 
--- a block's own words
+-- the first sixteen words of a schedule are those of the block
 pub scheduled_first : (block : List ℕ) (j : ℕ) (words : List (List ℕ)) → ((k : ℕ) → k < 16 → lane_at words k j ≡ word_at block (4 * k))
     → IsScheduled block j words 16
 scheduled_first block j words is k below = is k below ∙ sym (slice_index-schedule_first block 48 k below)
 
--- fewer of them
+-- If the first n words are those of the schedule, so are the first m, for m at most n.
 pub scheduled_fewer : (block : List ℕ) (j : ℕ) (words : List (List ℕ)) (n m : ℕ) → m ≤ n → IsScheduled block j words n
     → IsScheduled block j words m
 scheduled_fewer block j words n m le held k below = held k (omega (arith, le, below))
@@ -27,7 +27,7 @@ scheduled_word block j t words low high long held =
     rw (at (t - 2) (omega arith), at (t - 7) (omega arith), at (t - 15) (omega arith), at (t - 16) (omega arith))
     (sym (slice_index-schedule_next block 48 t low (omega arith)))
 
--- one word more
+-- the first words of the schedule after one more is written
 pub scheduled_more : (block : List ℕ) (j t : ℕ) (words : List (List ℕ)) (word : List ℕ) → t < length words
     → slice_index word j ≡ slice_index (schedule block 48) t → IsScheduled block j words t
     → IsScheduled block j (slice_set words t word) (t + 1)
@@ -54,7 +54,7 @@ late_word_is block k below =
     sym (slice_index-schedule_next block 48 (16 + k) (omega arith) (omega arith)
     ∙ rw (two, seven, fifteen, sixteen) (add32_assoc (add32 (small_sigma1 (slice_index ws (k + 14))) (slice_index ws (k + 9))) _ (slice_index ws k)))
 
--- a word of what a block begins with
+-- If a block begins with these bytes, its first five words are those of the bytes.
 pub word_of_head : (block bytes : List ℕ) (k : ℕ) → k < 5 → take 20 block ≡ bytes → word_at bytes (4 * k) ≡ word_at block (4 * k)
 word_of_head block bytes k below same =
     let at : (i : ℕ) → i < 20 → slice_index bytes i ≡ slice_index block i =
@@ -62,7 +62,7 @@ word_of_head block bytes k below same =
     in
     rw (at (4 * k) (omega arith), at (4 * k + 1) (omega arith), at (4 * k + 2) (omega arith), at (4 * k + 3) (omega arith)) refl
 
--- what holds of the first four numbers
+-- what holds for each of the numbers 0 to 3 holds for each number below 4
 pub below_four : (P : ℕ → Type 0) → P 0 → P 1 → P 2 → P 3 → (k : ℕ) → k < 4 → P k
 below_four P p0 p1 p2 p3 zero h = p0
 below_four P p0 p1 p2 p3 (suc zero) h = p1

@@ -23,13 +23,13 @@ length-bits_of words = length-map (map count_ones words) (λ n. n) ∙ length-ma
 pub long_lanes : (a sums : List ℕ) (at n : ℕ) → at + n ≤ length a → length sums ≡ n → length sums ≡ length (bits_of (chunk at n a))
 long_lanes a sums at n room long = long ∙ sym (length-bits_of (chunk at n a) ∙ length-chunk at n a room)
 
--- a vector of words more
+-- the sum after one more vector of words
 pub sums_more : (a sums : List ℕ) (at n m : ℕ) → m ≡ at + n → m ≤ length a → length sums ≡ n → sum_l sums ≡ sum_by count_ones (take at a)
     → sum_l sums + sum_l (bits_of (chunk at n a)) ≡ sum_by count_ones (take m a)
 sums_more a sums at n m e room long done =
     rw (done, sum-bits_of (chunk at n a), e, take-add at n a) (sym (sum_by-append count_ones (take at a) (chunk at n a)))
 
--- a front of few words has few bits
+-- a prefix of at most 1,024 words has at most 65,536 bits set
 pub few_bits : (a : List ℕ) (n : ℕ) → ((i : ℕ) → Fits w64 (slice_index_or a i 0)) → length a ≤ 1024 → sum_by count_ones (take n a) ≤ 65536
 few_bits a n fit few =
     let all = sum_by-le count_ones 64 a (All-from_get_or (λ word. count_ones word ≤ 64) a 0 (λ i lt. ones-le 64 (slice_index_or a i 0) ((fit i).fits))) in

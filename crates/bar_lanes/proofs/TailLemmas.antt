@@ -9,17 +9,17 @@ use lib.Lanes.{sel_l, top, zip2}
 use Rattle.sha2.specs.Sha256.{digest_bytes, padded_message, padding, word_at}
 use Rattle.sha2.proofs.Schedule256.{slice_index-schedule_first}
 use Rattle.bar_lanes.specs.declared.state.State.{State}
-use Rattle.bar_lanes.specs.Lane.{IsScheduled, digest_lane, of_lanes, state_lane, tail_lane}
+use Rattle.bar_lanes.specs.Code.Lane.{IsScheduled, digest_lane, of_lanes, state_lane, tail_lane}
 use Rattle.bar_lanes.proofs.LaneLemmas.{below_eight, splat_lane}
 use Rattle.bar_lanes.proofs.ScheduleLemmas.{scheduled_more}
 
 -- ---- lanes
 
--- a lane of eight
+-- lane j of a list of eight
 pub of_lanes_at : (f : ℕ → List ℕ) (j : ℕ) → j < 8 → slice_index_or (of_lanes f) j [] ≡ f j
 of_lanes_at f j below = below_eight (λ i. slice_index_or (of_lanes f) i [] ≡ f i) refl refl refl refl refl refl refl refl j below
 
--- a lane of a choice by a test of two vectors
+-- a lane of a selection by a test of two vectors
 pub selected : (t : ℕ → ℕ → Bool) (a b xs ys : List ℕ) (j : ℕ) → length a ≡ 8 → length b ≡ 8 → length xs ≡ 8 → length ys ≡ 8 → j < 8
     → slice_index (sel_l (map (top 31) (zip2 (λ x y. cond (t x y) (2 ^ 32 - 1) 0) a b)) xs ys) j
     ≡ cond (t (slice_index a j) (slice_index b j)) (slice_index xs j) (slice_index ys j)
@@ -45,13 +45,13 @@ select_equal n counts xs ys j long long_x long_y below =
     selected nat_eq counts (n ∷ n ∷ n ∷ n ∷ n ∷ n ∷ n ∷ n ∷ []) xs ys j long refl long_x long_y below
     ∙ ap (λ m. cond (nat_eq (slice_index counts j) m) (slice_index xs j) (slice_index ys j)) (splat_lane n j below)
 
--- a lane of eight that are seen so
+-- If a list is `of_lanes f`, its lane j is f j.
 pub seen_lane : (f : ℕ → List ℕ) (now : List (List ℕ)) (j : ℕ) → of_lanes f ≡ now → j < 8 → slice_index_or now j [] ≡ f j
 seen_lane f now j is below = ap (λ all. slice_index_or all j []) (sym is) ∙ of_lanes_at f j below
 
 -- ---- words and bytes
 
--- a word has the bytes from which it is read
+-- a word that is read from four bytes is written as the same bytes
 pub word_bytes : (a b c d : ℕ) → a < 256 → b < 256 → c < 256 → d < 256
     → to_be_bytes w32 (from_be_bytes w32 (a ∷ b ∷ c ∷ d ∷ [])) ≡ a ∷ b ∷ c ∷ d ∷ []
 word_bytes a b c d ha hb hc hd =
@@ -63,7 +63,7 @@ word_bytes a b c d ha hb hc hd =
     let fourth : n % 256 ≡ d = omega (arith, is, ha, hb, hc, hd) in
     (λ i. first i ∷ second i ∷ third i ∷ fourth i ∷ [])
 
--- words that are read from bytes, written again
+-- words that are read from bytes are written as the same bytes
 pub bytes_of_words : (words bytes : List ℕ) (n : ℕ) → ((i : ℕ) → slice_index bytes i < 256) → 4 * n ≤ length bytes
     → ((i : ℕ) → i < n → slice_index words i ≡ word_at bytes (4 * i)) → digest_bytes words n ≡ take (4 * n) bytes
 unfolding digest_bytes
@@ -150,7 +150,7 @@ word_after head rest m long =
       after_head head rest (20 + m + 3) (m + 3) long (omega arith),
     ) refl
 
--- the words of a state are words
+-- the words of lane j of a state are below 2^32
 pub record IsWords (s : State) (j : ℕ) : Type 0 where
   pub a : slice_index s.a j < 2 ^ 32
   pub b : slice_index s.b j < 2 ^ 32
@@ -220,7 +220,7 @@ module _ (head place : List ℕ) (values : State) (j : ℕ) (long : length head 
   unfolding tail_lane digest_lane digest_bytes
   word_15 = at_word 15 40 refl
 
--- one more of a block's own words
+-- the first words of the schedule after one more word of the block is written
 pub first_more : (block : List ℕ) (j t : ℕ) (words : List (List ℕ)) (word : List ℕ) → t < 16 → length words ≡ 64
     → slice_index word j ≡ word_at block (4 * t) → IsScheduled block j words t → IsScheduled block j (slice_set words t word) (t + 1)
 first_more block j t words word below long is held =
@@ -229,7 +229,7 @@ first_more block j t words word below long is held =
 pub long_set : (words : List (List ℕ)) (t : ℕ) (word : List ℕ) → length words ≡ 64 → length (slice_set words t word) ≡ 64
 long_set words t word long = length-set words t word ∙ long
 
--- ---- what is taken where a test holds
+-- ---- selection by a test
 
 pub digest_chosen : (b : Bool) (s v u : State) (j : ℕ) → state_lane j s ≡ (if b then state_lane j v else state_lane j u)
     → digest_lane s j ≡ (if b then digest_lane v j else digest_lane u j)
@@ -255,7 +255,7 @@ tail_gone_on true place next old s v u j at is number =
     (λ i. take 3 (to_be_bytes w32 (at i)) ++ digest_bytes (is i) 8) ∙ ap (λ front. front ++ digest_bytes (state_lane j v) 8) number
 tail_gone_on false place next old s v u j at is number = λ i. take 3 (to_be_bytes w32 (at i)) ++ digest_bytes (is i) 8
 
--- ---- what values are made of
+-- ---- values as words
 
 -- the words of a value are those of its bytes
 pub digest_of_bytes : (s : State) (j : ℕ) (bytes : List ℕ) → ((i : ℕ) → slice_index bytes i < 256) → length bytes ≡ 32
@@ -299,7 +299,7 @@ scheduled_tail block j ws w5 w6 w7 w8 w9 w10 w11 w12 w13 w14 w15 long e5 e6 e7 e
     let s15 = first_more block j 14 _ w14 (omega arith) l13 e14 s14 in
     first_more block j 15 _ w15 (omega arith) l14 e15 s15
 
--- the place with the next number: that of its chain, and a number below 256 that stands above a byte of 0
+-- the place with the next number: the same chain, and the number modulo 256 above a byte of 0
 pub next_is : (p : ℕ) → p < 2 ^ 32 → p % 256 ≡ 0
     → bit_or (p / 2 ^ 16 * 2 ^ 16 % 2 ^ 32) ((p + 0x100) % 2 ^ 32 * 2 ^ 16 % 2 ^ 32 / 2 ^ 16) ≡ p / 65536 * 65536 + (p / 256 + 1) % 256 * 256
 next_is p small even =

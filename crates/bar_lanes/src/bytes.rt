@@ -7,7 +7,7 @@ use std::simd::u8x32;
 
 const LANES: usize = 32;
 
-/// XORs the n bytes of `src` into the n bytes of `dst`, each into the one at its place.
+/// XORs `src` into `dst`, byte by byte. Both have n bytes.
 pub fn xor_into(dst: &mut [u8], src: &[u8])
     requires { length src.now ≡ length dst.old }
     ensures { dst.new ≡ zip2 bit_xor dst.old src.now }

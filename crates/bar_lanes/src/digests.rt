@@ -15,7 +15,7 @@ pub struct Digests {
 
 impl Model for Digests {
     ghost use Rattle.std.specs.Prelude.{ℕ, List};
-    ghost use Rattle.bar_lanes.specs.Lane.{digest_lane, of_lanes};
+    ghost use Rattle.bar_lanes.specs.Code.Lane.{digest_lane, of_lanes};
 
     ghost Value = { List (List ℕ) };
 
@@ -41,7 +41,7 @@ impl Digests {
         }
     }
 
-    /// The values, each by itself.
+    /// The eight values as an array.
     pub fn to_bytes(&self) -> [[u8; 32]; 8]
         ensures { (j : ℕ) → j < 8 → slice_index_or result j [] ≡ slice_index_or self.now j [] }
     {
@@ -53,7 +53,7 @@ impl Digests {
         values
     }
 
-    /// Takes the value of another eight in each lane whose count is n.
+    /// In each lane whose count is n, replaces the value by that of `others`.
     #[inline(always)]
     pub fn take(&mut self, others: &Digests, counts: u32x8, n: u32)
         ensures { (j : ℕ) → j < 8 → slice_index_or self.new j [] ≡ (if slice_index counts j == n

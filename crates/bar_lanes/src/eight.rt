@@ -2,7 +2,7 @@
 
 ghost use Rattle.std.specs.Prelude.{◌≡◌, ℕ, ◌*◌, ◌+◌, ◌<◌, ◌≤◌, [], length, slice_index, slice_index_or};
 ghost use Rattle.sha2.specs.Sha256.{padded_message, word_at, digest_bytes, compress, initial_hash_256, sha256};
-ghost use Rattle.bar_lanes.specs.Lane.{hash_lane};
+ghost use Rattle.bar_lanes.specs.Code.Lane.{hash_lane};
 
 use crate::rounds::compress;
 use std::simd::u32x8;
@@ -30,7 +30,7 @@ fn word_in(bytes: &[u8], at: usize) -> u32
     u32::from_be_bytes([bytes[at], bytes[at + 1], bytes[at + 2], bytes[at + 3]])
 }
 
-// The same of a row of N bytes.
+// The same for an array of N bytes.
 fn word<const N: usize>(row: &[u8; N], at: usize) -> u32
     requires { at + 4 ≤ N }
     ensures is { result ≡ word_at row.now at }
@@ -40,7 +40,7 @@ fn word<const N: usize>(row: &[u8; N], at: usize) -> u32
     word_in(row.as_slice(), at)
 }
 
-// Word k of each row of bytes, a lane for each.
+// Word k of each row of bytes, with a lane for each row.
 pub(crate) fn words_at<const N: usize>(rows: &[[u8; N]; 8], k: usize) -> u32x8
     requires { 4 * k + 4 ≤ N }
     ensures is { (j : ℕ) → j < 8 → slice_index result j ≡ word_at (slice_index_or rows.now j []) (4 * k) }
@@ -116,7 +116,7 @@ fn hashes(blocks: &[[u8; 64]; 8]) -> [[u32; 8]; 8]
     lanes_of(compress(&initial_hash(), &mut words))
 }
 
-/// Writes the SHA-256 of each of eight messages of 55 bytes, digest j being that of message j (FIPS 180-4, 6.2).
+/// Writes the SHA-256 of each of eight messages of 55 bytes; digest j is that of message j (FIPS 180-4, 6.2).
 pub fn sha_eight(messages: &[[u8; 55]; 8], out: &mut [[u8; 32]; 8])
     ensures { (j : ℕ) → j < 8 → slice_index_or out.new j [] ≡ sha256 (slice_index_or messages.now j []) }
 {

@@ -1,8 +1,8 @@
-//! SHA-256 of eight messages of 55 bytes. What their first 20 bytes alone tell is computed once.
+//! SHA-256 of eight messages of 55 bytes; all that depends on their first 20 bytes alone is computed once.
 
 ghost use Rattle.std.specs.Prelude.{◌≡◌, ℕ, ◌*◌, ◌/◌, ◌%◌, ◌^◌, ◌+◌, ◌<◌, ◌++◌, List, [], bit_or, length, take, slice_index, slice_index_or};
 ghost use Rattle.sha2.specs.Sha256.{initial_hash_256, padded_message, rounds, schedule, sha256};
-ghost use Rattle.bar_lanes.specs.Lane.{hash_lane, head_lane, Begins, IsHeadState, IsScheduled, late_at};
+ghost use Rattle.bar_lanes.specs.Code.Lane.{hash_lane, head_lane, Begins, IsHeadState, IsScheduled, late_at};
 ghost use Rattle.bar_lanes.specs.declared.beginning.Beginning.{Beginning};
 ghost use Rattle.bar_lanes.specs.declared.state.State.{State};
 
@@ -17,9 +17,9 @@ use crate::vectors::{add, or, shift_left, shift_right};
 use std::marker::Model;
 use std::simd::u32x8;
 
-/// The first 20 bytes of eight messages of 55, which are five words of a block each. With them stands what they tell of each block that begins
-/// so: of the words 16 to 19 of the schedule the summands that come from words 0 to 4, and the state after the first five rounds. Contracts see
-/// the list of these 20 bytes of each.
+/// The first 20 bytes of eight messages of 55, as the first five words of each block. With them are kept values that depend on these words
+/// alone: the summands of schedule words 16 to 19 that come from words 0 to 4, and the state after the first five rounds. Contracts see the
+/// list of the first 20 bytes of each message.
 #[derive(Drop)]
 pub struct Heads {
     words: Beginning,
@@ -29,7 +29,7 @@ pub struct Heads {
 
 impl Model for Heads {
     ghost use Rattle.std.specs.Prelude.{◌≡◌, ℕ, ◌<◌, List, take};
-    ghost use Rattle.bar_lanes.specs.Lane.{head_lane, of_lanes, IsHeadState};
+    ghost use Rattle.bar_lanes.specs.Code.Lane.{head_lane, of_lanes, IsHeadState};
 
     ghost Value = { List (List ℕ) };
 
@@ -65,7 +65,7 @@ fn put_head(words: &mut Words, head: Beginning)
     words[4] = head.e;
 }
 
-// What word 16 + k of the schedule has of words k and k + 1.
+// The sum of those summands of schedule word 16 + k that come from words k and k + 1.
 fn late_word(words: &Words, k: usize) -> u32x8
     requires { k < 4 }
     ensures { (j : ℕ) (block : List ℕ) → j < 8 → IsScheduled block j words.now 5 → slice_index result j ≡ late_at block k }
@@ -73,7 +73,7 @@ fn late_word(words: &Words, k: usize) -> u32x8
     add(small_sigma0(words[k + 1]), words[k])
 }
 
-// The same for the words 16 to 19.
+// These sums for the words 16 to 19.
 fn late_words(words: &Words) -> Late
     ensures first { (j : ℕ) (block : List ℕ) → j < 8 → IsScheduled block j words.now 5 → slice_index result.a j ≡ late_at block 0 }
     ensures second { (j : ℕ) (block : List ℕ) → j < 8 → IsScheduled block j words.now 5 → slice_index result.b j ≡ late_at block 1 }
@@ -88,7 +88,7 @@ fn late_words(words: &Words) -> Late
     }
 }
 
-// The states behind the first five rounds.
+// The states after the first five rounds.
 fn first_steps(words: &Words) -> [u32x8; 8]
     ensures { (j : ℕ) (block : List ℕ) → j < 8 → IsScheduled block j words.now 5
         → hash_lane j result ≡ rounds initial_hash_256 (schedule block 48) 5 }
@@ -111,7 +111,7 @@ fn next_word(words: &Words, late: u32x8, k: usize) -> u32x8
     add(near, late)
 }
 
-// The word of blocks that has the last three bytes of one word of their values and the first of the next.
+// The block words that consist of the last three bytes of one word of the values and the first byte of the next.
 #[inline(always)]
 fn between(word: u32x8, next: u32x8) -> u32x8
     ensures is { (j : ℕ) → j < 8 → slice_index result j ≡ bit_or (slice_index word j * 2 ^ 8 % 2 ^ 32) (slice_index next j / 2 ^ 24) }
@@ -120,7 +120,7 @@ fn between(word: u32x8, next: u32x8) -> u32x8
     or(shift_left(word, 8), shift_right(next, 24))
 }
 
-// The word of blocks that has their chains' place and the first byte of the first word of their values.
+// The block words that consist of the three bytes of the place and the first byte of the values' first word.
 #[inline(always)]
 fn place_word(place: u32x8, first: u32x8) -> u32x8
     ensures is { (j : ℕ) → j < 8 → slice_index result j ≡ bit_or (slice_index place j) (slice_index first j / 2 ^ 24) }
@@ -163,7 +163,7 @@ fn put_late(words: &mut Words, late: Late)
     words[19] = next_word(words, late.d, 3);
 }
 
-// Writes words 20 to 31 of schedules. They stand here one by one, since words 14 and 15 are constants, of which the compiler folds the sums.
+// Writes words 20 to 31 of schedules. The calls are written out because words 14 and 15 are constants, so the compiler folds sums of them.
 #[inline(always)]
 fn put_near(words: &mut Words)
     ensures { (j : ℕ) (block : List ℕ) → j < 8 → IsScheduled block j words.old 20 → IsScheduled block j words.new 32 }
@@ -173,7 +173,7 @@ fn put_near(words: &mut Words)
     four_words(words, 28);
 }
 
-// The states of rounds 5 to 7.
+// Rounds 5 to 7.
 #[inline(always)]
 fn three_steps(words: &Words, working: [u32x8; 8]) -> [u32x8; 8]
     ensures { (j : ℕ) (block : List ℕ) → j < 8 → IsScheduled block j words.now 64
@@ -186,7 +186,7 @@ fn three_steps(words: &Words, working: [u32x8; 8]) -> [u32x8; 8]
 }
 
 impl Heads {
-    /// What eight messages with these first bytes have of them.
+    /// The heads of eight messages with these first bytes.
     pub fn new(bytes: &[[u8; 20]; 8]) -> Heads
         ensures { (j : ℕ) → j < 8 → slice_index_or result j [] ≡ slice_index_or bytes.now j [] }
     {
@@ -200,8 +200,8 @@ impl Heads {
         }
     }
 
-    /// The SHA-256 of each of the eight messages that have these bytes after their first 20 (FIPS 180-4, 6.2). The words of their schedules are
-    /// written anew, so that a loop needs room for them once.
+    /// The SHA-256 of each of the eight messages that have these bytes after their first 20 (FIPS 180-4, 6.2). It overwrites `words` with
+    /// their schedules, so that a loop needs only one such array.
     pub fn hash(&self, tails: &Tails, words: &mut Words) -> Digests
         ensures { (j : ℕ) → j < 8 → slice_index_or result j [] ≡ sha256 (slice_index_or self.now j [] ++ slice_index_or tails.now j []) }
     {

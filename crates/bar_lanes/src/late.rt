@@ -1,6 +1,6 @@
 use std::simd::u32x8;
 
-/// Of the words 16 to 19 of eight schedules the summands that come from words 0 to 4, a vector for each word.
+/// The summands of words 16 to 19 of eight schedules that come from words 0 to 4, a vector for each word.
 #[derive(Clone, Copy)]
 pub struct Late {
     pub(crate) a: u32x8,

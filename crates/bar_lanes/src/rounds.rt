@@ -3,7 +3,7 @@
 ghost use Rattle.std.specs.Prelude.{◌≡◌, ℕ, ◌+◌, ◌*◌, ◌<◌, ◌≤◌, slice_index, List};
 ghost use Rattle.sha2.specs.Sha256.{big_sigma0, big_sigma1, small_sigma0, small_sigma1, ch, maj, round};
 ghost use Rattle.sha2.specs.Sha256.{rounds, schedule, compress, word_at, next_word, add32, add_state};
-ghost use Rattle.bar_lanes.specs.Lane.{lane, lane_at, hash_lane, IsScheduled};
+ghost use Rattle.bar_lanes.specs.Code.Lane.{lane, lane_at, hash_lane, IsScheduled};
 
 use crate::vectors::{add, and, not, rotate_right, shift_right, xor};
 use std::simd::u32x8;
@@ -31,8 +31,8 @@ fn ch(a: u32x8, b: u32x8, c: u32x8) -> u32x8
     xor(and(a, b), and(not(a), c))
 }
 
-// The bits that most of the three have (FIPS 180-4, 4.1.2). Where a and c both differ from b, it's theirs; the first two are compared again in
-// the next round, as its last two.
+// The majority of three bits (FIPS 180-4, 4.1.2). If a and c both differ from b, it is theirs; otherwise it is that of b. The next round
+// compares a and b again, as its b and c.
 #[inline(always)]
 fn maj(a: u32x8, b: u32x8, c: u32x8) -> u32x8
     ensures { (j : ℕ) → j < 8 → slice_index result j ≡ maj (slice_index a j) (slice_index b j) (slice_index c j) }
@@ -42,7 +42,7 @@ fn maj(a: u32x8, b: u32x8, c: u32x8) -> u32x8
     xor(and(near, far), b)
 }
 
-// The function Σ0 (FIPS 180-4, 4.1.2). Here and below each rotation stands within the next, which takes fewer copies.
+// The function Σ0 (FIPS 180-4, 4.1.2). Here and below, each rotation is nested in the next, which takes fewer copies.
 #[inline(always)]
 fn big_sigma0(x: u32x8) -> u32x8
     ensures { (j : ℕ) → j < 8 → slice_index result j ≡ big_sigma0 (slice_index x j) }
@@ -78,7 +78,7 @@ pub(crate) fn small_sigma1(x: u32x8) -> u32x8
     xor(rotate_right(both, 17), shift_right(x, 10))
 }
 
-// The first sum of a round (FIPS 180-4, 6.2.2), which begins with what takes no copies.
+// The first sum of a round (FIPS 180-4, 6.2.2). It begins with the summands that need no copies.
 #[inline(always)]
 fn first_sum(e: u32x8, f: u32x8, g: u32x8, h: u32x8, constant: u32, word: u32x8) -> u32x8
     ensures { (j : ℕ) → j < 8 → slice_index result j ≡ add32 (add32 (add32 (add32 (slice_index h j) (big_sigma1 (slice_index e j)))
@@ -112,7 +112,7 @@ fn next_word(words: &Words, t: usize) -> u32x8
     add(far, words[t - 16])
 }
 
-// Writes words t to t + 3 of the schedule, behind those that are there.
+// Writes words t to t + 3 of the schedule, after those that are already there.
 #[inline(always)]
 pub(crate) fn four_words(words: &mut Words, t: usize)
     requires low { 16 ≤ t }
@@ -125,7 +125,7 @@ pub(crate) fn four_words(words: &mut Words, t: usize)
     words[t + 3] = next_word(words, t + 3);
 }
 
-// Writes the schedule's words from word `4 * first` on, behind those that are there.
+// Writes the schedule's words from word `4 * first` on, after those that are already there.
 pub(crate) fn fill_words(words: &mut Words, first: usize)
     requires low { 4 ≤ first }
     requires high { first ≤ 16 }
@@ -161,7 +161,7 @@ fn four_steps(words: &Words, working: [u32x8; 8], t: usize) -> [u32x8; 8]
     step(words, working, t + 3)
 }
 
-// The sums of the words of eight hash values and eight states.
+// Adds eight states to eight hash values, word by word.
 pub(crate) fn add_states(hash: &[u32x8; 8], working: &[u32x8; 8]) -> [u32x8; 8]
     ensures { (j : ℕ) → j < 8 → hash_lane j result ≡ add_state (hash_lane j hash.now) (hash_lane j working.now) }
 {
@@ -177,7 +177,7 @@ pub(crate) fn add_states(hash: &[u32x8; 8], working: &[u32x8; 8]) -> [u32x8; 8]
     ]
 }
 
-// Takes all rounds from round `4 * first` on, and adds the hash values that they began with.
+// Performs all rounds from round `4 * first` on, and adds the hash values that the first round started from.
 pub(crate) fn last_steps(
     words: &Words,
     start: [u32x8; 8],
@@ -196,7 +196,7 @@ pub(crate) fn last_steps(
     add_states(hash, &working)
 }
 
-// Takes eight hash values of eight words past a block each, whose sixteen words are the first of these.
+// The eight hash values after one more block each. The blocks' sixteen words are the first of `words`.
 pub(crate) fn compress(hash: &[u32x8; 8], words: &mut Words) -> [u32x8; 8]
     ensures { (j : ℕ) (block : List ℕ) → j < 8 → ((k : ℕ) → k < 16 → lane_at words.old k j ≡ word_at block (4 * k))
         → hash_lane j result ≡ compress (hash_lane j hash.now) block }

@@ -1,7 +1,7 @@
 //! The eight words of eight hash values or states.
 
 ghost use Rattle.std.specs.Prelude.{◌≡◌, ◌==◌, ◌∷◌, [], ℕ, ◌<◌, slice_index, if◌then◌else◌, nat_lt};
-ghost use Rattle.bar_lanes.specs.Lane.{state_lane};
+ghost use Rattle.bar_lanes.specs.Code.Lane.{state_lane};
 
 use crate::vectors::{where_below, where_equal};
 use std::simd::u32x8;
@@ -20,7 +20,7 @@ pub struct State {
 }
 
 impl State {
-    /// Of these words.
+    /// The state with these words.
     #[inline(always)]
     pub(crate) fn of(words: [u32x8; 8]) -> State
         ensures { result.a ∷ result.b ∷ result.c ∷ result.d ∷ result.e ∷ result.f ∷ result.g ∷ result.h ∷ [] ≡ words }

@@ -1,4 +1,4 @@
-//! What eight messages of 55 bytes have after their first 20.
+//! The last 35 bytes of eight messages of 55 bytes.
 
 ghost use Rattle.std.specs.Prelude.{◌≡◌, ◌==◌, ◌++◌, ◌∷◌, ◌+◌, ◌%◌, ℕ, ◌<◌, [], drop, slice_index, slice_index_or, take, if◌then◌else◌, nat_lt};
 ghost use Rattle.std.specs.Int.{w32, to_be_bytes};
@@ -9,8 +9,8 @@ use crate::vectors::{add, or, shift_left, shift_right, where_below, where_equal}
 use std::marker::Model;
 use std::simd::u32x8;
 
-/// What eight messages of 55 bytes have after their first 20: two bytes and a number of one byte, which are the upper bytes of a word, and a
-/// value of 32 bytes. Contracts see the list of these 35 bytes of each.
+/// The last 35 bytes of eight messages of 55: two bytes and a number of one byte, which are kept as the upper bytes of a word, and a value
+/// of 32 bytes. Contracts see the list of these 35 bytes of each message.
 #[derive(Drop)]
 pub struct Tails {
     pub(crate) place: u32x8,
@@ -19,7 +19,7 @@ pub struct Tails {
 
 impl Model for Tails {
     ghost use Rattle.std.specs.Prelude.{◌≡◌, ◌%◌, ◌<◌, ℕ, List, slice_index};
-    ghost use Rattle.bar_lanes.specs.Lane.{of_lanes, tail_lane};
+    ghost use Rattle.bar_lanes.specs.Code.Lane.{of_lanes, tail_lane};
 
     ghost Value = { List (List ℕ) };
 
@@ -37,7 +37,7 @@ fn place_of(bytes: &[u8; 3]) -> u32
 }
 
 impl Tails {
-    /// Each with two bytes and a number, and with a value.
+    /// The tails that consist of these places, two bytes and a number each, and these values.
     pub fn new(places: &[[u8; 3]; 8], values: &Digests) -> Tails
         ensures { (j : ℕ) → j < 8 → slice_index_or result j [] ≡ slice_index_or places.now j [] ++ slice_index_or values.now j [] }
     {
@@ -63,7 +63,7 @@ impl Tails {
         Digests { state: self.values }
     }
 
-    /// Takes another value and the next number in each lane whose count is above n. After 255 comes 0.
+    /// In each lane whose count is above n, takes the value of `values` and increments the number modulo 256.
     #[inline(always)]
     pub fn go_on(&mut self, values: &Digests, counts: u32x8, n: u32)
         ensures { (j : ℕ) → j < 8 → slice_index_or self.new j [] ≡ (if nat_lt n (slice_index counts j)
@@ -75,7 +75,7 @@ impl Tails {
         self.values = self.values.where_below(n, counts, values.state);
     }
 
-    /// Takes another eight in each lane whose count is n.
+    /// In each lane whose count is n, takes the tail of `others`.
     #[inline(always)]
     pub fn take(&mut self, others: &Tails, counts: u32x8, n: u32)
         ensures { (j : ℕ) → j < 8 → slice_index_or self.new j [] ≡ (if slice_index counts j == n

@@ -1,4 +1,4 @@
-//! Rows of words of 64 bits.
+//! Operators on rows of 64-bit words.
 
 ghost use Rattle.std.specs.Prelude.{◌≡◌, ◌*◌, ◌+◌, ◌≤◌, length, bit_and, count_ones, sum_by};
 ghost use Rattle.std.specs.Int.{w64, bit_not};
@@ -8,7 +8,7 @@ use std::simd::u64x4;
 
 const LANES: usize = 4;
 
-/// Writes the n words of `a` to the n words of `out`, without the bits that the word of `b` at the same place has.
+/// Writes each word of `a`, without the bits of the word of `b` at the same index, to `out`. All three have n words.
 pub fn and_not(a: &[u64], b: &[u64], out: &mut [u64])
     requires second { length b.now ≡ length a.now }
     requires written { length out.old ≡ length a.now }

@@ -1,4 +1,4 @@
--- The broadcaster over every list of inputs: what it signs, whom it evicts, what it says again, and to whom it sends.
+-- The broadcaster over every list of inputs: what it signs, whom it evicts, what it sends again, and to whom it sends.
 mod SentToAll
 mod Steps
 mod Serving

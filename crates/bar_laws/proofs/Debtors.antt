@@ -1,4 +1,4 @@
--- Who owes a key isn't served.
+-- A party that owes a key isn't served.
 mod Refused
 mod Spared
 mod Moments

@@ -1,4 +1,4 @@
--- What a peer may forget: what a log tells after each entry, and what agrees with it.
+-- What a peer may forget: the knowledge that a log represents after each entry, and knowledge that agrees with it.
 mod InLife
 mod OpenList
 mod Learning

@@ -1,4 +1,4 @@
--- A CASE between two trusted peers that hasn't come is said again.
+-- A CASE between two trusted peers that hasn't arrived is sent again.
 use Rattle.bar_wire.specs.Datagram.{Datagram, is_of}
 use Rattle.bar_wire.specs.declared.kind.Kind.TheVariants as kinds
 use Rattle.bar_window.specs.Exchange.{other_role, party_on}
@@ -38,7 +38,7 @@ log-is setup trusted moves p log h t =
     some-equal log (log_after (member setup p) [] (inputs_of setup moves p))
     (sym t.log_is ∙ (peers-run setup moves h.setup_is p t.low ((sound-after setup trusted moves h).peers p log t.log_is)).log)
 
--- the partner of a member is on the other side, where it is another party
+-- the partner of a member is on the other side, if it is another party
 partner-role : (setup : Setup) (peer : ℕ) (x : Exchange) → (partner_in (member setup peer) x ≡ peer → ⊥) → role_of (member setup (partner_in (member setup peer) x)) x ≡ other_role (role_of (member setup peer) x)
 partner-role setup peer x other = go (eqb x.initiator peer) refl
   where
@@ -72,7 +72,7 @@ module _ (setup : Setup) (trusted : ℕ → Bool) (moves : List Move) (h : Forge
       let s = saying me log d kinds.Case x (role_of me x) own-rules was.0 was.1 in
       sign-elsewhere me s.was.before d.message s.obedient s.sign (receiver-on kinds.Case x (role_of me x) d.message was.1 ∙ same)
 
-  -- a KEYREQ of the partner's that was admitted tells that it has the CASE
+  -- an admitted KEYREQ from the partner shows that the partner has the CASE
   not-asked : has_heard (is_of kinds.KeyReq x (other_role (role_of me x))) log ≡ true → ⊥
   not-asked e =
       let f = some-is (first_heard (is_of kinds.KeyReq x (other_role (role_of me x))) log) e in
@@ -90,7 +90,7 @@ module _ (setup : Setup) (trusted : ℕ → Bool) (moves : List Move) (h : Forge
       in
       both_ways (has_heard (is_of kinds.Case x (role_of me x)) w.theirs) w.missing (subst (λ l. has_heard (is_of kinds.Case x (role_of me x)) l ≡ true) (sym their-run) has)
 
-  -- so this peer has said no KEY
+  -- hence this peer has said no KEY
   no-key-said : has_said (is_of kinds.Key x (role_of me x)) log ≡ false
   no-key-said =
       false_from_ne_true (has_said (is_of kinds.Key x (role_of me x)) log)
@@ -98,7 +98,7 @@ module _ (setup : Setup) (trusted : ℕ → Bool) (moves : List Move) (h : Forge
       (subst (λ l. has_heard (is_of kinds.KeyReq x (other_role (role_of me x))) l ≡ true) (sym own-run)
       ((run-called me [] 1 (inputs_of setup moves peer) tt (λ y g. cc)).0 x (subst (λ l. has_said (is_of kinds.Key x (role_of me x)) l ≡ true) own-run e))))
 
-  -- and a KEY of the partner's would tell the same
+  -- a KEY from the partner would show the same
   case-found : (o : Option Datagram) → is_some (option_and_then (λ (c : Datagram). briefcase_in c.message.body) o) ≡ true → is_some o ≡ true
   case-found (Some c) e = refl
   case-found None e = cc

@@ -1,4 +1,4 @@
--- A briefcase is said again, tick by tick, until it is known to have come.
+-- A briefcase is sent again, tick by tick, until it is known to have arrived.
 use Rattle.std.specs.Prelude.{◌≡◌, ℕ, ◌+◌, ◌<◌, ◌≤◌, ◌&&◌, not, Contains, nat_le, Bool, true, false, List, [], ◌∷◌, ◌++◌, Some, if◌then◌else◌}
 use Rattle.std.specs.List.{AllByRecursion}
 use Rattle.bar_window.specs.Exchange.{other_role}
@@ -27,7 +27,7 @@ use Rattle.bar_laws.specs.Parties.{ForgesNothing, IsTrustedPeer, after}
 
 -- ---- which briefcases
 
--- At a tick of a session of version 3 this CASE of the exchange was said, and its partner isn't announced evicted.
+-- At a tick of a session of version 3, this CASE of the exchange was said, and its partner isn't announced evicted.
 pub record IsSaidCase (me : Member) (log : Log) (x : Exchange) (d : Datagram) : Type 0 where
   pub third : is_third me.session.shape ≡ true
   pub in_time : ticks log < last_tick me.session
@@ -44,7 +44,7 @@ is_waiting me k x =
     && not (has_said_of k kinds.Key x (role_of me x))
     && not (has_heard_of k kinds.Key x (other_role (role_of me x)))
 
--- ---- what stands beside them
+-- ---- what is sent beside them
 
 -- a balanced initiator that hasn't heard the partner's CASE
 abbrev pub divulges_by : XKind → Role → Bool → Bool
@@ -55,17 +55,17 @@ divulges_by Push role heard = false
 abbrev pub divulges : Member → Knowledge → Exchange → Bool
 divulges me k x = divulges_by x.kind (role_of me x) (has_partners_case me k x)
 
--- the DIVULGE of the exchange, with what it was begun with, and to the partner
+-- the DIVULGE of the exchange to the partner, revealing what the exchange was begun with
 abbrev pub divulge_of : Member → Exchange → List ℕ × List UpdateId → ℕ × Datagram
 divulge_of me x a = (partner_in me x, unsigned (message_to me x (Divulge x.round a.0 a.1)))
 
--- it is sent exactly by such an initiator
+-- the DIVULGE is sent if and only if the member is such an initiator
 pub record IsDivulged (me : Member) (k : Knowledge) (x : Exchange) (front : List (ℕ × Datagram)) : Type 0 where
   pub sent :
       divulges me k x ≡ true → (a : List ℕ × List UpdateId) × (k.revealed x ≡ Some a) × (front ≡ divulge_of me x a ∷ [])
   pub none : divulges me k x ≡ false → front ≡ []
 
--- the KEYREQ of the exchange, to the partner, whose CASE is heard
+-- the KEYREQ of the exchange to the partner, if the partner's CASE is heard
 abbrev pub key_requests : Member → Knowledge → Exchange → List (ℕ × Datagram)
 key_requests me k x =
     if has_partners_case me k x
@@ -76,8 +76,8 @@ key_requests me k x =
 abbrev pub IsNoCase : Exchange → ℕ × Datagram → Type 0
 IsNoCase x send = (role : Role) → is_of kinds.Case x role send.1.message ≡ false
 
--- The tick sends this CASE once, to the partner. Directly before it stands the DIVULGE of such an initiator, and directly after it the
--- KEYREQ of who has the partner's CASE.
+-- The tick sends this CASE once, to the partner. Directly before it is the DIVULGE of such an initiator, and directly after it the KEYREQ
+-- of a member that has the partner's CASE.
 pub record SendsCase (me : Member) (log : Log) (x : Exchange) (d : Datagram) : Type 0 where
   pub before : List (ℕ × Datagram)
   pub front : List (ℕ × Datagram)
@@ -89,9 +89,9 @@ pub record SendsCase (me : Member) (log : Log) (x : Exchange) (d : Datagram) : T
   pub none_before : AllByRecursion (IsNoCase x) before
   pub none_after : AllByRecursion (IsNoCase x) after
 
--- ---- each of them
+-- ---- all of them
 
--- In the round that the tick makes each CASE that was said is sent if it waits, and else no CASE of its exchange is.
+-- In the round after the tick, each CASE that was said is sent if it waits. If it doesn't wait, no CASE of its exchange is sent.
 pub record SaysCasesAgain (me : Member) (log : Log) : Type 0 where
   pub said :
       (x : Exchange) (d : Datagram) → IsSaidCase me log x d → is_waiting me (known me (Ticked ∷ log)) x ≡ true → SendsCase me log x d
@@ -99,20 +99,21 @@ pub record SaysCasesAgain (me : Member) (log : Log) : Type 0 where
       (x : Exchange) (d : Datagram) → IsSaidCase me log x d → is_waiting me (known me (Ticked ∷ log)) x ≡ false
       → AllByRecursion (IsNoCase x) (step me log event.Tick).sends
 
--- whatever comes
+-- for every list of inputs
 abbrev pub BriefcasesAreSaidAgain : Type 0
 BriefcasesAreSaidAgain = InEachPeersLog SaysCasesAgain
 
 -- ---- between two trusted peers
 
--- each KEYREQ of an exchange that was admitted is one that its partner has sent
+-- each admitted KEYREQ of an exchange is one that its partner has sent
 abbrev pub AsksItself : Setup → List Move → Member → Log → Exchange → Type 0
 AsksItself setup moves me log x =
     (d : Datagram) → Contains log (Heard d) → is_of kinds.KeyReq x (other_role (role_of me x)) d.message ≡ true
     → (send : ℕ × ℕ × Datagram)
     × Contains (sends_of (member setup (partner_in me x)) (inputs_of setup moves (partner_in me x))) send × (send.2 ≡ d)
 
--- A trusted peer has said this CASE to a trusted partner, which hasn't admitted it; and nobody else has asked for the KEY in its name.
+-- A trusted peer has said this CASE to a trusted partner, which hasn't admitted it, and nobody else has asked for the KEY in the partner's
+-- name.
 pub record IsMissing (setup : Setup) (trusted : ℕ → Bool) (moves : List Move) (peer : ℕ) (log : Log) (x : Exchange) (d : Datagram) :
     Type 0 where
   pub this : IsTrustedPeer trusted (after setup moves) peer log
@@ -122,7 +123,7 @@ pub record IsMissing (setup : Setup) (trusted : ℕ → Bool) (moves : List Move
   pub missing : has_heard (is_of kinds.Case x (role_of (member setup peer) x)) theirs ≡ false
   pub asked : AsksItself setup moves (member setup peer) log x
 
--- In version 3 each tick up to two rounds after the exchange's says the CASE again.
+-- In version 3 each tick up to two rounds after the exchange's sends the CASE again.
 abbrev pub MissingAreSaidAgain : Type 0
 MissingAreSaidAgain =
     (setup : Setup) (trusted : ℕ → Bool) (moves : List Move) → ForgesNothing setup trusted moves

@@ -1,4 +1,4 @@
--- What holds of the broadcaster over every list of inputs: whom it evicts, what it signs, what it says again, and to whom it sends.
+-- What holds of the broadcaster over every list of inputs: whom it evicts, what it signs, what it sends again, and to whom it sends.
 use Rattle.std.specs.Prelude.{◌≡◌, ◌⊎◌, ℕ, ◌+◌, ◌-◌, ◌*◌, ◌<◌, ◌≤◌, ◌==◌, ◌&&◌, Bool, true, false, List, [], ◌∷◌, ◌++◌, map, filter, length, Some, None, Contains, if◌then◌else◌}
 use Rattle.std.specs.List.{AllByRecursion}
 use Rattle.bar_lms.specs.Schemes.{leaves_by}
@@ -24,14 +24,14 @@ use Rattle.bar_rules.specs.Peer.Sizes.{most_evidence}
 use Rattle.bar_rules.specs.Values.{datagram_of}
 use Rattle.bar_laws.specs.Always.{InEachPeersLog}
 
--- of each broadcaster with its stream, and every list of inputs that it takes
+-- for each broadcaster with its stream, and every list of inputs that it takes
 abbrev pub OfEachBroadcaster : (Member → List ℕ → List Input → Type 0) → Type 0
 OfEachBroadcaster P = (me : Member) (stream : List ℕ) → IsBroadcaster me → (inputs : List Input) → P me stream inputs
 
 -- ---- whom it evicts
 
--- Evidence against a party came in time: before the last tick an input was a datagram with evidence, which the verdict under the table of
--- that moment shows against the party.
+-- Evidence against a party arrived in time: before the last tick, an input was a datagram with this evidence, and the verdict on it under
+-- the table at that moment names the party.
 pub record WasShown (me : Member) (stream : List ℕ) (inputs : List Input) (party : ℕ) (evidence : List (List ℕ)) : Type 0 where
   pub before : List Input
   pub bytes : List ℕ
@@ -44,12 +44,13 @@ pub record WasShown (me : Member) (stream : List ℕ) (inputs : List Input) (par
   pub fault : Fault
   pub shown : verdict me.session (caster_table me stream (caster_log_after me stream before)) evidence ≡ Shown party fault
 
--- It is the first that came against the party.
+-- It is the first evidence against the party that arrived.
 pub record WasShownFirst (me : Member) (stream : List ℕ) (inputs : List Input) (party : ℕ) (evidence : List (List ℕ)) : Type 0 where
   pub shown : WasShown me stream inputs party evidence
   pub none_before : (other : List (List ℕ)) → WasShown me stream shown.before party other → ⊥
 
--- Exactly the parties are evicted against which evidence came in time. They are peers, and the first evidence against each is kept.
+-- A party is evicted if and only if evidence against it arrived in time. Evicted parties are peers, and the first evidence against each is
+-- kept.
 pub record EvictsTheShown (me : Member) (stream : List ℕ) (inputs : List Input) : Type 0 where
   pub evicted_was_shown :
       (party : ℕ) → Contains (evicted me.session (caster_log_after me stream inputs)) party
@@ -84,13 +85,13 @@ caster_leaf body = 2 * (round_of body - 1)
 abbrev pub manifest_of : Member → List ℕ → ℕ → Datagram
 manifest_of me stream round = caster_signed me (2 * (round - 1)) (Manifest round (manifest_list me.session stream round))
 
--- a manifest as the stream has it, or a notice of evictions
+-- a manifest with the stream's list, or a notice of evictions
 abbrev pub IsAnnouncement : Member → List ℕ → Body → Type 0
 IsAnnouncement me stream (Manifest round digests) = digests ≡ manifest_list me.session stream round
 IsAnnouncement me stream (Evict round parties) = Unit {0}
 IsAnnouncement me stream body = ⊥
 
--- It signs manifests and notices, of rounds of the session that have begun, each with its leaf, which is one of the key's.
+-- It signs manifests and notices, of rounds of the session that have begun, each with its own leaf of the key.
 pub record IsSignedInTime (me : Member) (stream : List ℕ) (log : Log) (d : Datagram) : Type 0 where
   pub announces : IsAnnouncement me stream d.message.body
   pub signed : d ≡ caster_signed me (caster_leaf d.message.body) d.message.body
@@ -100,7 +101,7 @@ pub record IsSignedInTime (me : Member) (stream : List ℕ) (log : Log) (d : Dat
   pub begun : round_of d.message.body ≤ round_now log
   pub below : caster_leaf d.message.body < leaves_by me.session.top me.session.params
 
--- Each round of the session that has begun has its manifest. When a message is signed, none of its kind and round was signed before; so
+-- Each round of the session that has begun has its manifest. When a message is signed, none of its kind and round was signed before. So
 -- there are one manifest and at most one notice a round, and no leaf signs two messages.
 pub record SignsOnce (me : Member) (stream : List ℕ) (log : Log) : Type 0 where
   pub each : (d : Datagram) → Contains log (Said d) → IsSignedInTime me stream log d
@@ -116,9 +117,9 @@ pub record SignsOnce (me : Member) (stream : List ℕ) (log : Log) : Type 0 wher
 abbrev pub SignsOnceARound : Type 0
 SignsOnceARound = OfEachBroadcaster (λ me stream inputs. SignsOnce me stream (caster_log_after me stream inputs))
 
--- ---- what it says again
+-- ---- what it sends again
 
--- what the tick of slot 2 is to send: where the rules say a manifest again, that of the round before, to each peer that isn't evicted
+-- what the tick of slot 2 is to send: if the rules repeat a manifest, that of the round before, to each peer that isn't evicted
 abbrev pub said_again : Member → List ℕ → Log → List (ℕ × Datagram)
 said_again me stream log =
     let m : ℕ = round_after (ticks log + 1) in
@@ -129,15 +130,15 @@ pub record SaysManifestAgain (me : Member) (stream : List ℕ) (log : Log) : Typ
   pub sends : (caster_step me stream log event.Tick).sends ≡ said_again me stream log
   pub log_after : (caster_step me stream log event.Tick).state ≡ Ticked ∷ log
 
--- each tick of slot 2 does
+-- each tick of slot 2 does so
 abbrev pub RepeatsManifests : Type 0
 RepeatsManifests =
     OfEachBroadcaster (λ me stream inputs.
     let log : Log = caster_log_after me stream inputs in
     ticks log < last_tick me.session → slot_after (ticks log + 1) ≡ 2 → SaysManifestAgain me stream log)
 
--- a peer in the round after one of the session, of which it has admitted no manifest, admits that of the broadcaster, however short updates
--- live
+-- In the round after one of the session whose manifest it has not admitted, a peer admits the broadcaster's manifest of that round, however
+-- short updates live.
 abbrev pub AdmitsLateManifests : Member → Log → Type 0
 AdmitsLateManifests me log =
     (caster : Member) (stream : List ℕ) → IsBroadcaster caster → caster.session ≡ me.session
@@ -150,7 +151,7 @@ LateManifestsAreAdmitted = InEachPeersLog AdmitsLateManifests
 
 -- ---- to whom it sends
 
--- each datagram that an input sends goes to a peer that isn't evicted
+-- each datagram that an input sends is for a peer that isn't evicted
 abbrev pub ServesTheOthers : Type 0
 ServesTheOthers =
     OfEachBroadcaster (λ me stream inputs. (input : Input) →
@@ -171,7 +172,7 @@ abbrev pub receivers_at : Member → List ℕ → Log → UpdateId → Input →
 receivers_at me stream log u input =
     map (λ send. send.0) (filter (λ send. is_block_of u send.1.message.body) (caster_step me stream log input).sends)
 
--- where none is evicted, the block goes to the fan-out of the update, each of whose peers gets it once, in slots 1 and 5 of its round
+-- if none is evicted, the block is sent once to each peer in the fan-out of the update, in slots 1 and 5 of its round
 abbrev pub GoesToTheFanout : Type 0
 GoesToTheFanout =
     OfEachBroadcaster (λ me stream inputs. (u : UpdateId) → IsReleased me stream u
@@ -190,7 +191,7 @@ FanoutsAreWhole =
 abbrev pub block_count : Member → List ℕ → List Input → UpdateId → ℕ
 block_count me stream inputs u = length (filter (λ send. is_block_of u send.2.message.body) (caster_sends_of me stream inputs))
 
--- where none is evicted, each update whose round is past goes to each peer of its fan-out twice
+-- if none is evicted, each update whose round is past was sent twice to each peer of its fan-out
 abbrev pub GoesOutTwice : Type 0
 GoesOutTwice =
     OfEachBroadcaster (λ me stream inputs. (u : UpdateId) → IsReleased me stream u

@@ -1,4 +1,4 @@
--- Debts in plain terms, and that who owes a key isn't served.
+-- Debts in plain terms: a party that owes a key isn't served.
 use Rattle.std.specs.Prelude.{◌≡◌, ◌⊎◌, ℕ, ◌+◌, ◌*◌, ◌<◌, ◌≤◌, ◌==◌, ◌&&◌, nat_le, nat_lt, Bool, true, false, List, [], ◌∷◌, ◌++◌, length, Contains}
 use Rattle.std.specs.List.{AllByRecursion, IsDistinct, list_all, sum_by}
 use Rattle.bar_window.specs.Exchange.{other_role, same_exchange}
@@ -25,8 +25,8 @@ use Rattle.bar_laws.specs.Rooms.{is_kept}
 abbrev pub IsUnpaid : Member → Log → Exchange → Type 0
 IsUnpaid me log x = (d : Datagram) → Contains log (Heard d) → is_of kinds.Key x (other_role (role_of me x)) d.message ≡ false
 
--- In a session of version 3 this member has said its KEY of an exchange with the party, and none of the party's was admitted. The round is
--- two after the exchange's at least, and one in which KEYs of it are still admitted.
+-- In a session of version 3, this member has said its KEY of an exchange with the party, and none of the party's was admitted. The round is
+-- at least two after the exchange's, and KEYs of the exchange are still admitted in it.
 pub record IsDebt (me : Member) (log : Log) (party : ℕ) : Type 0 where
   pub third : is_third me.session.shape ≡ true
   pub exchange : Exchange
@@ -38,16 +38,16 @@ pub record IsDebt (me : Member) (log : Log) (party : ℕ) : Type 0 where
   pub mine : is_of kinds.Key exchange (role_of me exchange) key.message ≡ true
   pub unpaid : IsUnpaid me log exchange
 
--- the rules read a debt of a log exactly where there is one
+-- the rules find a debt in a log if and only if there is one
 pub record ReadsDebts (me : Member) (log : Log) (party : ℕ) : Type 0 where
   pub read : owes me (known me log) party ≡ true → IsDebt me log party
   pub there : IsDebt me log party → owes me (known me log) party ≡ true
 
--- of every log
+-- for every log
 abbrev pub DebtsAreRead : Type 0
 DebtsAreRead = (me : Member) (log : Log) (party : ℕ) → ReadsDebts me log party
 
--- ---- who owes isn't served
+-- ---- a debtor isn't served
 
 -- a REQUEST or a QUERY, with which an exchange begins
 abbrev pub begins : Body → Bool
@@ -72,23 +72,23 @@ pub record IsNeverPaid (me : Member) (log : Log) (x : Exchange) : Type 0 where
   pub mine : is_of kinds.Key x (role_of me x) key.message ≡ true
   pub unpaid : IsUnpaid me log x
 
--- the exchanges that were begun with a party, of as many rounds from this one on as an update lives
+-- the exchange was begun with a party, and its round is this one or a later one, within the life of an update
 abbrev pub is_begun_with : Member → Log → ℕ → ℕ → Exchange → Bool
 is_begun_with me log party round y =
     (partner_in me y == party) && (nat_le round y.round && nat_lt y.round (round + me.session.shape.life)) && is_kept me (known me log) y
 
--- of each of the two kinds: two that this member asked for, and three that the party asked for
+-- for each of the two kinds: two exchanges that this member asked for, and three that the party asked for
 abbrev pub most_with_debtor : ℕ
 most_with_debtor = 2 * (2 + 3)
 
--- different ones of them are few, and so is what is opened in them
+-- Distinct exchanges of this sort are few, and so is what is opened in them.
 pub record IsFew (me : Member) (inputs : List Input) (xs : List Exchange) : Type 0 where
   pub exchanges : length xs ≤ most_with_debtor
   pub opened : sum_by (λ y. (totals_of me inputs y).opened) xs ≤ most_with_debtor * me.session.cap
 
--- No REQUEST or QUERY is admitted from who owes a key, and a tick sends it none but those that were said before. So no exchange with it
--- begins: none between the KEY of an exchange that is never paid and the last round in which it may be. Where that KEY was said a round
--- after the exchange's at the latest, few exchanges with the party are of the rounds from the exchange's on in which an update of it lives.
+-- No REQUEST or QUERY is admitted from a party that owes a key, and a tick sends it none but those that were said before. So no exchange
+-- with it begins between the KEY of an exchange that is never paid and the last round in which it may be paid. If that KEY was said at most
+-- one round after the exchange's, few exchanges with the party are of the rounds, from the exchange's on, in which an update of it lives.
 pub record ServesNoDebtor (me : Member) (inputs : List Input) : Type 0 where
   pub admits :
       (d : Datagram) → begins d.message.body ≡ true → owes me (known me (log_after me [] inputs)) d.message.from ≡ true
@@ -110,6 +110,6 @@ pub record ServesNoDebtor (me : Member) (inputs : List Input) : Type 0 where
       → (xs : List Exchange) → IsDistinct same_exchange xs
       → list_all (is_begun_with me (log_after me [] inputs) (partner_in me x) x.round) xs ≡ true → IsFew me inputs xs
 
--- whatever comes
+-- for every list of inputs
 abbrev pub WhoOwesIsNotServed : Type 0
 WhoOwesIsNotServed = OfEachPeer ServesNoDebtor

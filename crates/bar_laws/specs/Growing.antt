@@ -1,4 +1,4 @@
--- Logs grow: whatever comes, what a log has stays, and what is new stands before it.
+-- Logs grow: for all inputs, what a log contains remains, and new entries are put before it.
 use Rattle.std.specs.Prelude.{◌≡◌, ℕ, List, ◌++◌, Some, slice_get}
 use Rattle.bar_wire.specs.Inputs.{Input}
 use Rattle.bar_rules.specs.Broadcaster.Party.{IsBroadcaster}
@@ -10,7 +10,7 @@ use Rattle.bar_rules.specs.Runs.{state_after}
 use Rattle.bar_rules.specs.World.World.{IsSetup, Move, Setup, World}
 use Rattle.bar_laws.specs.Parties.{after}
 
--- the log has grown from this one
+-- The log has grown from an earlier one.
 pub record IsLater (log before : Log) : Type 0 where
   pub new : Log
   pub split : log ≡ new ++ before
@@ -25,13 +25,13 @@ CastersGrow =
     (me : Member) (stream : List ℕ) (log : Log) (inputs : List Input) → IsBroadcaster me
     → IsLater (state_after (caster_step me stream) log inputs) log
 
--- The party has a log, which has grown from this one.
+-- The party has a log, which has grown from an earlier one.
 pub record HasGrown (w : World) (party : ℕ) (before : Log) : Type 0 where
   pub log : Log
   pub log_is : slice_get w.logs party ≡ Some log
   pub later : IsLater log before
 
--- so has each party of a world, over more moves
+-- each party of a world has so grown, over more moves
 abbrev pub PartiesGrow : Type 0
 PartiesGrow =
     (setup : Setup) (moves later : List Move) (party : ℕ) (log : Log) → IsSetup setup → slice_get (after setup moves).logs party ≡ Some log

@@ -29,7 +29,7 @@ is_unread s (event.Datagram bytes) = is_none (datagram_of s bytes)
 abbrev pub tells_nothing : Member → Knowledge → Datagram → Bool
 tells_nothing me k d = not (is_admitted me k d) && not (is_some (repeated me k d)) && not (is_some (new_evidence me k d))
 
--- it is ignored, and so are bytes that aren't read
+-- such a datagram is ignored, and so are bytes that can't be read
 abbrev pub is_ignored : Member → Knowledge → Input → Bool
 is_ignored me k event.Tick = false
 is_ignored me k (event.Datagram bytes) = option_map_or (tells_nothing me k) (datagram_of me.session bytes) true
@@ -44,12 +44,12 @@ abbrev pub evicts : Log → Verdict → Bool
 evicts log (Shown party fault) = is_none (kept log party)
 evicts log (NotShown why) = false
 
--- so does that on evidence; whatever else comes evicts nobody
+-- the verdict on evidence does so; no other datagram evicts anybody
 abbrev pub is_news : Member → List ℕ → Log → Body → Bool
 is_news me stream log (Evidence datagrams) = evicts log (verdict me.session (caster_table me stream log) datagrams)
 is_news me stream log _ = false
 
--- whatever is no such evidence is ignored
+-- every datagram that isn't such evidence is ignored
 abbrev pub is_ignored_by_caster : Member → List ℕ → Log → Input → Bool
 is_ignored_by_caster me stream log event.Tick = false
 is_ignored_by_caster me stream log (event.Datagram bytes) =

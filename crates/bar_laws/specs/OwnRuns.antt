@@ -1,4 +1,4 @@
--- A party of a world does what its own run does: its log, and what it played and sent, follow from the inputs that the moves gave it.
+-- A party of a world behaves as in its own run: its log, and what it played and sent, follow from the inputs that the moves gave it.
 use Rattle.std.specs.Prelude.{◌≡◌, ℕ, ◌≤◌, ◌==◌, Bool, false, List, [], ◌∷◌, ◌++◌, map, filter, Option, Some, None, if◌then◌else◌, slice_get, Contains}
 use Rattle.std.specs.Option.{option_map_or}
 use Rattle.bar_rules.specs.Broadcaster.Sending.{caster_step}
@@ -15,7 +15,7 @@ use Rattle.bar_laws.specs.Parties.{ForgesNothing, after}
 
 -- ---- the inputs of a party
 
--- an input of this receiver, where it is the party
+-- an input for this receiver, if the receiver is the party
 abbrev pub given_to : ℕ → ℕ → Input → List Input
 given_to party receiver input = if receiver == party then input ∷ [] else []
 
@@ -37,8 +37,8 @@ inputs_from setup w party (m ∷ ms) = input_at w party m ++ inputs_from setup (
 abbrev pub inputs_of : Setup → List Move → ℕ → List Input
 inputs_of setup moves party = inputs_from setup (initial setup) party moves
 
--- Where nothing is forged, each signed datagram of a trusted party that stands among these inputs, admitted or not, stands in that party's
--- log as signed, with this signature.
+-- If nothing is forged, each signed datagram of a trusted party among these inputs, admitted or not, is recorded in that party's log as
+-- signed, with this signature.
 abbrev pub GivenIsGenuine : Type 0
 GivenIsGenuine =
     (setup : Setup) (trusted : ℕ → Bool) (moves : List Move) → ForgesNothing setup trusted moves
@@ -47,7 +47,7 @@ GivenIsGenuine =
 
 -- ---- its packets
 
--- the packet spells a datagram of this party
+-- the packet encodes a datagram of this party
 abbrev pub is_from : Session → ℕ → ℕ × List ℕ → Bool
 is_from s party packet = option_map_or (λ d. d.message.from == party) (datagram_of s packet.1) false
 
@@ -57,8 +57,8 @@ packets_of s sends = map (λ sent. (sent.1, datagram_bytes s sent.2)) sends
 
 -- ---- its run
 
--- After the moves a party has the log that its own steps leave over its inputs, from nothing on, and has played what they play; and of all
--- packets that were ever sent, those that spell a datagram of the party are the ones that its steps send, in order.
+-- After the moves, a party has the log that its own steps leave over its inputs, from the empty log on, and has played what they play. Of
+-- all packets that were ever sent, those that encode a datagram of the party are the ones that its steps send, in order.
 pub record IsOwnRun (setup : Setup) (moves : List Move) (party : ℕ) (steps : Log → Input → Outcome Log) : Type 0 where
   pub log : slice_get (after setup moves).logs party ≡ Some (state_after steps [] (inputs_of setup moves party))
   pub played : slice_get (after setup moves).played party ≡ Some (played_from steps [] (inputs_of setup moves party))
@@ -66,13 +66,13 @@ pub record IsOwnRun (setup : Setup) (moves : List Move) (party : ℕ) (steps : L
       filter (is_from setup.session party) (after setup moves).packets
       ≡ packets_of setup.session (sends_from steps [] 1 (inputs_of setup moves party))
 
--- of each peer
+-- for each peer
 abbrev pub PeersRun : Type 0
 PeersRun =
     (setup : Setup) (moves : List Move) → IsSetup setup → (peer : ℕ) → 1 ≤ peer → peer ≤ setup.session.shape.peers
     → IsOwnRun setup moves peer (step (member setup peer))
 
--- of the broadcaster
+-- for the broadcaster
 abbrev pub BroadcasterRuns : Type 0
 BroadcasterRuns =
     (setup : Setup) (moves : List Move) → IsSetup setup → IsOwnRun setup moves 0 (caster_step (member setup 0) setup.stream)

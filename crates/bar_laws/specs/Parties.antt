@@ -20,13 +20,13 @@ after setup moves = run setup (initial setup) moves
 
 -- ---- worlds to which unforged moves lead
 
--- The set of trusted parties has the broadcaster, and the moves forge no accepted signature of a trusted party.
+-- The set of trusted parties contains the broadcaster, and the moves forge no accepted signature of a trusted party.
 pub record ForgesNothing (setup : Setup) (trusted : ℕ → Bool) (moves : List Move) : Type 0 where
   pub setup_is : IsSetup setup
   pub broadcaster : trusted 0 ≡ true
   pub unforged : AreUnforged setup trusted (initial setup) moves
 
--- whatever the network and hostile parties do, where nothing is forged
+-- whatever the network and hostile parties do, if nothing is forged
 abbrev pub InUnforgedWorlds : (Setup → (ℕ → Bool) → World → Type 0) → Type 0
 InUnforgedWorlds P =
     (setup : Setup) (trusted : ℕ → Bool) (moves : List Move) → ForgesNothing setup trusted moves → P setup trusted (after setup moves)
@@ -36,7 +36,7 @@ pub record IsTrusted (trusted : ℕ → Bool) (w : World) (party : ℕ) (log : L
   pub trust : trusted party ≡ true
   pub log_is : slice_get w.logs party ≡ Some log
 
--- one that is a peer
+-- a trusted party that is a peer
 pub record IsTrustedPeer (trusted : ℕ → Bool) (w : World) (peer : ℕ) (log : Log) : Type 0 where
   pub low : 1 ≤ peer
   pub trust : trusted peer ≡ true
@@ -55,7 +55,7 @@ AccusesNobody setup trusted w =
 abbrev pub NobodyIsAccused : Type 0
 NobodyIsAccused = InUnforgedWorlds AccusesNobody
 
--- a trusted peer is none of those whom the broadcaster has evicted
+-- the broadcaster has evicted no trusted peer
 abbrev pub EvictsNobody : Setup → (ℕ → Bool) → World → Type 0
 EvictsNobody setup trusted w =
     (peer : ℕ) (log caster : Log) → IsTrustedPeer trusted w peer log → IsCastersLog w caster
@@ -64,7 +64,7 @@ EvictsNobody setup trusted w =
 abbrev pub NobodyIsEvicted : Type 0
 NobodyIsEvicted = InUnforgedWorlds EvictsNobody
 
--- to no peer is a trusted peer announced evicted
+-- no trusted peer is announced evicted to any peer
 abbrev pub AnnouncesNobody : Setup → (ℕ → Bool) → World → Type 0
 AnnouncesNobody setup trusted w =
     (peer announced : ℕ) (mine theirs : Log) → 1 ≤ peer → slice_get w.logs peer ≡ Some mine → IsTrustedPeer trusted w announced theirs
@@ -73,7 +73,7 @@ AnnouncesNobody setup trusted w =
 abbrev pub NobodyIsAnnounced : Type 0
 NobodyIsAnnounced = InUnforgedWorlds AnnouncesNobody
 
--- A key that was admitted opens the partner's briefcase well, and afterwards the receiver holds each promised update that is alive then.
+-- An admitted key opens the partner's briefcase well, and afterwards the receiver holds each promised update that is alive then.
 pub record OpensWell (me : Member) (before : Log) (d : Datagram) (k : KeyGiven) : Type 0 where
   pub case : Briefcase
   pub found : case_heard_from before (exchange_by k.round k.kind k.role d.message.from d.message.to) k.role ≡ Some case
@@ -83,14 +83,14 @@ pub record OpensWell (me : Member) (before : Log) (d : Datagram) (k : KeyGiven) 
       (u : UpdateId) → Contains (promised_updates me.session.cap case.terms case.role) u
       → is_alive me.session u.round (round_now before) ≡ true → is_held me.session (Heard d ∷ before) u ≡ true
 
--- The datagram is a KEY of this sender that was admitted into the log after what stood before.
+-- The datagram is a KEY of this sender that was admitted after the log before it.
 pub record IsAdmittedKey (log before : Log) (sender : ℕ) (d : Datagram) (k : KeyGiven) : Type 0 where
   pub later : Log
   pub split : log ≡ later ++ Heard d ∷ before
   pub is_key : d.message.body ≡ Key k
   pub from : d.message.from ≡ sender
 
--- each key between two trusted peers that one of them admitted
+-- each key that one of two trusted peers admitted from the other
 abbrev pub KeysWork : Setup → (ℕ → Bool) → World → Type 0
 KeysWork setup trusted w =
     (receiver sender : ℕ) (mine theirs before : Log) (d : Datagram) (k : KeyGiven)
@@ -115,19 +115,19 @@ ExtendsTables setup trusted w =
     (peer : ℕ) (log caster : Log) → IsTrustedPeer trusted w peer log → IsCastersLog w caster
     → Extends (table log) (caster_table (member setup 0) setup.stream caster)
 
--- at each moment
+-- in every unforged world
 abbrev pub TablesAreExtended : Type 0
 TablesAreExtended = InUnforgedWorlds ExtendsTables
 
 -- ---- what is sent, whatever is forged
 
--- The bytes spell the datagram, which is from the party, and if its kind is signed its signature is accepted under this sender's key.
+-- The bytes encode the datagram, which is from the party. If its kind is signed, its signature is accepted under this sender's key.
 pub record IsAccepted (s : Session) (party : ℕ) (bytes : List ℕ) (d : Datagram) : Type 0 where
   pub reads : datagram_of s bytes ≡ Some d
   pub from : d.message.from ≡ party
   pub accepted : is_signed d.message.body ≡ true → is_signed_by s d ≡ true
 
--- a datagram with its receiver, so accepted as the bytes that are sent
+-- the bytes sent for a datagram are accepted in this sense
 abbrev pub IsSentBy : Setup → ℕ → ℕ × Datagram → Type 0
 IsSentBy setup party sent = IsAccepted setup.session party (datagram_bytes setup.session sent.1) sent.1
 
@@ -138,7 +138,7 @@ StepIsAccepted =
     → (party : ℕ) (log : Log) (input : Input) → slice_get (after setup moves).logs party ≡ Some log
     → AllByRecursion (IsSentBy setup party) (party_step setup party log input).sends
 
--- The bytes of a packet spell a datagram of one of the parties, so accepted.
+-- The bytes of a packet encode a datagram of one of the parties, accepted in this sense.
 pub record IsOfParty (setup : Setup) (packet : ℕ × List ℕ) : Type 0 where
   pub party : ℕ
   pub present : party ≤ setup.session.shape.peers

@@ -14,11 +14,11 @@ pub record SessionOf (peers rounds : ℕ) : Type 0 where
   pub peers_are : session.shape.peers ≡ peers
   pub rounds_are : session.shape.rounds ≡ rounds
 
--- of each number of peers that a session may have
+-- for each number of peers that a session may have
 abbrev pub SessionsExist : Type 0
 SessionsExist = (peers : ℕ) → 2 ≤ peers → peers ≤ 200 → SessionOf peers 10
 
--- A setup of these secrets and this stream, whose session is that one but for its keys and anchors.
+-- A setup of these secrets and this stream, whose session is the given one except for its keys and anchors.
 pub record SetupOf (s : Session) (secrets : List (List ℕ)) (stream : List ℕ) : Type 0 where
   pub setup : Setup
   pub is : IsSetup setup
@@ -26,7 +26,7 @@ pub record SetupOf (s : Session) (secrets : List (List ℕ)) (stream : List ℕ)
   pub secrets_are : setup.secrets ≡ secrets
   pub stream_is : setup.stream ≡ stream
 
--- whatever the numbers of the session are, the secrets of its parties and the stream
+-- for any session's numbers, any secrets of its parties and any stream
 abbrev pub SetupsExist : Type 0
 SetupsExist =
     (s : Session) (secrets : List (List ℕ)) (stream : List ℕ) → IsSession s → length secrets ≡ s.shape.peers + 1
@@ -37,13 +37,13 @@ abbrev pub PeersAreMembers : Type 0
 PeersAreMembers =
     (setup : Setup) (peer : ℕ) → IsSetup setup → 1 ≤ peer → peer ≤ setup.session.shape.peers → IsMember (member setup peer)
 
--- a tick, a delivery, or bytes that spell no datagram
+-- a tick, a delivery, or bytes that encode no datagram
 abbrev pub IsPlainMove : Session → Move → Type 0
 IsPlainMove s (TickOf party) = Unit {0}
 IsPlainMove s (Deliver number) = Unit {0}
 IsPlainMove s (Hostile to bytes) = datagram_of s bytes ≡ None
 
--- nothing is forged by such moves, whoever is trusted beside the broadcaster
+-- such moves forge nothing, whoever is trusted beside the broadcaster
 abbrev pub PlainMovesForgeNothing : Type 0
 PlainMovesForgeNothing =
     (setup : Setup) (trusted : ℕ → Bool) (moves : List Move) → IsSetup setup → trusted 0 ≡ true

@@ -15,7 +15,7 @@ use Rattle.bar_rules.specs.Peer.Writing.{offer_of, answer_of, reply_of}
 use Rattle.bar_laws.specs.Rewriting.{IsRewritten}
 
 -- Of recent exchanges the second knows as much as the first: which kinds were said, what is revealed, offered, answered and replied, and
--- the responder's seat. It has the blocks of fresh updates. What it has as said is what would be written by all this.
+-- the responder's seat. It has the blocks of fresh updates. What it has as said is what would be written from all this.
 pub record Remembers (me : Member) (one two : Knowledge) : Type 0 where
   pub marks :
       (kind : Kind) (x : Exchange) → IsRecent me one x.round → has_said_of one kind x (role_of me x) ≡ has_said_of two kind x (role_of me x)
@@ -27,7 +27,7 @@ pub record Remembers (me : Member) (one two : Knowledge) : Type 0 where
   pub blocks : (u : UpdateId) → IsFresh me one u.round → one.block u ≡ two.block u
   pub written : IsRewritten me two
 
--- so it has the very datagrams that were said, as long as they may be sent again, and the terms and side of each CASE that was said
+-- So it has exactly the datagrams that were said, as long as they may be sent again, and the terms and side of each CASE that was said.
 pub record SaysAlike (me : Member) (one two : Knowledge) : Type 0 where
   pub said : (kind : Kind) (x : Exchange) (role : Role) → IsRepeatable me one kind x.round → one.said kind x role ≡ two.said kind x role
   pub promises : (x : Exchange) (role : Role) → IsRecent me one x.round → promise_of one x role ≡ promise_of two x role
@@ -35,10 +35,10 @@ pub record SaysAlike (me : Member) (one two : Knowledge) : Type 0 where
 abbrev pub IsRemembered : Member → Log → Type 0
 IsRemembered me log = (two : Knowledge) → Remembers me (known me log) two → SaysAlike me (known me log) two
 
--- of the log that any inputs leave
+-- for the log after any inputs
 abbrev pub RunIsRemembered : Type 0
 RunIsRemembered = InEachPeersLog IsRemembered
 
--- of each log that keeps the rules
+-- for each log that obeys the rules
 abbrev pub LogIsRemembered : Type 0
 LogIsRemembered = (me : Member) → IsMember me → (log : Log) → IsObedient me log → IsRemembered me log

@@ -1,4 +1,4 @@
--- What was said is what would be written now: a peer has to keep none of its own datagrams.
+-- What was said is what would be written now, so a peer need not keep its own datagrams.
 use Rattle.std.specs.Prelude.{◌≡◌, Some}
 use Rattle.bar_window.specs.declared.exchange.Exchange.{Exchange}
 use Rattle.bar_window.specs.declared.exchange.Role.{Role}
@@ -18,10 +18,10 @@ pub record IsRewritten (me : Member) (k : Knowledge) : Type 0 where
   pub same :
       (kind : Kind) (x : Exchange) (d : Datagram) → k.said kind x (role_of me x) ≡ Some d → written me k x (body_again me k kind x) ≡ Some d
 
--- whatever comes
+-- for every list of inputs
 abbrev pub RunIsRewritten : Type 0
 RunIsRewritten = InEachLog (λ me log. IsRewritten me (known me log))
 
--- so it is of each log that keeps the rules, whether or not a run leaves it
+-- the same for each log that obeys the rules, whether or not a run leaves it
 abbrev pub LogIsRewritten : Type 0
 LogIsRewritten = (me : Member) (log : Log) → IsObedient me log → IsRewritten me (known me log)

@@ -1,4 +1,4 @@
--- How many bytes the datagrams have that a peer admits, and the evidence that it keeps.
+-- How many bytes are in the datagrams that a peer admits, and in the evidence that it keeps.
 use Rattle.std.specs.Prelude.{◌≡◌, ◌+◌, ◌≤◌, ℕ, List, Some, true, length, Contains}
 use Rattle.bar_wire.specs.Datagram.{Datagram, is_signed, kind_of}
 use Rattle.bar_wire.specs.Evidence.{evidence_bytes}
@@ -10,7 +10,7 @@ use Rattle.bar_rules.specs.Peer.Log.{Log, Heard, kept}
 use Rattle.bar_rules.specs.Peer.Rules.{IsObedient}
 use Rattle.bar_rules.specs.Peer.Sizes.{largest, most_evidence}
 use Rattle.bar_rules.specs.Values.{datagram_bytes}
-use Rattle.bar_seal.specs.Memo.{most_datagram}
+use Rattle.bar_seal.specs.Code.Memo.{most_datagram}
 use Rattle.bar_laws.specs.Always.{InEachLog}
 
 -- each datagram that was admitted has no more bytes than the largest of its kind
@@ -18,22 +18,22 @@ abbrev pub FitRooms : Member → Log → Type 0
 FitRooms me log =
     (d : Datagram) → Contains log (Heard d) → length (datagram_bytes me.session d) ≤ largest me.session.shape (kind_of d.message.body)
 
--- whatever comes
+-- for every list of inputs
 abbrev pub RunFitsRooms : Type 0
 RunFitsRooms = InEachLog FitRooms
 
--- so it is of each log that keeps the rules, whether or not a run leaves it
+-- the same for each log that obeys the rules, whether or not a run leaves it
 abbrev pub LogFitsRooms : Type 0
 LogFitsRooms = (me : Member) (log : Log) → IsObedient me log → FitRooms me log
 
 -- Evidence that is kept is one or two datagrams, each of a length that a datagram may have. It has no more bytes than its room, and fits a
--- datagram behind a header.
+-- datagram after a header.
 pub record FitsItsRoom (me : Member) (evidence : List (List ℕ)) : Type 0 where
   pub range : AreDatagramsInRange evidence
   pub short : length (evidence_bytes evidence) ≤ most_evidence me.session.shape
   pub sendable : header_len + length (evidence_bytes evidence) ≤ largest_datagram
 
--- so it is of each log that keeps the rules
+-- for each log that obeys the rules
 abbrev pub LogKeepsShortEvidence : Type 0
 LogKeepsShortEvidence =
     (me : Member) (log : Log) (party : ℕ) (evidence : List (List ℕ)) → IsSession me.session → IsObedient me log

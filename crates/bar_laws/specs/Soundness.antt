@@ -1,4 +1,4 @@
--- What a peer's memory may rely on: how the parts of what is known of a log hang together.
+-- What a peer's memory may rely on: how the parts of what is known of a log are related.
 use Rattle.std.specs.Prelude.{◌≡◌, ℕ, ◌+◌, ◌<◌, ◌≤◌, true, IsSome, Some, is_some}
 use Rattle.std.specs.List.{All}
 use Rattle.bar_window.specs.declared.exchange.Exchange.{Exchange}
@@ -27,17 +27,18 @@ pub record CanGive (me : Member) (k : Knowledge) (x : Exchange) (t : Terms) : Ty
   pub valid : can_promise me.session.cap t ≡ true
   pub held : All (λ u. IsSome (k.block u)) (promised_updates me.session.cap t (role_of me x))
 
--- A briefcase that was heard from the other side of an exchange, which has said one: it has the terms of the exchange, and the counts of
--- its sender's promise by them.
+-- A briefcase that was heard from the other side of an exchange, of which this side has said one. It has the terms of the exchange, and the
+-- counts of its sender's promise by these terms.
 pub record IsTheirs (me : Member) (k : Knowledge) (x : Exchange) (c : Briefcase) : Type 0 where
   pub side : c.role ≡ other_role (role_of me x)
   pub said : has_said_of k kinds.Case x (role_of me x) ≡ true
   pub terms : terms_of me k x ≡ Some c.terms
   pub counts : counts_ok me.session c ≡ true
 
--- What was heard has a spelling, was sent to this member, and its signature was accepted where its kind bears one. What was heard or said of a kind, exchange and side is of them. The
--- manifests are of rounds up to the next. Who has a seat asked for it, and there are two. Where a CASE was said, its blocks are held. Where
--- one was heard from the other side, it is as this side expects.
+-- What was heard has an encoding, was sent to this member, and if its kind is signed, its signature was accepted. What was heard or said
+-- under a kind, exchange and side is of them. The manifests are of rounds up to the next. Each exchange with a seat has an admitted
+-- request, and there are two seats. If a CASE was said, its blocks are held. If one was heard from the other side, it is as this side
+-- expects.
 pub record IsSound (me : Member) (k : Knowledge) : Type 0 where
   pub spelled : (kind : Kind) (x : Exchange) (role : Role) (d : Datagram) → k.heard kind x role ≡ Some d → IsDatagram me.session.shape d
   pub heard : (kind : Kind) (x : Exchange) (role : Role) (d : Datagram) → k.heard kind x role ≡ Some d → is_of kind x role d.message ≡ true
@@ -52,6 +53,6 @@ pub record IsSound (me : Member) (k : Knowledge) : Type 0 where
   pub cases : (x : Exchange) (t : Terms) → has_said_of k kinds.Case x (role_of me x) ≡ true → terms_of me k x ≡ Some t → CanGive me k x t
   pub theirs : (x : Exchange) (c : Briefcase) → case_heard_of k x (other_role (role_of me x)) ≡ Some c → IsTheirs me k x c
 
--- of each log that keeps the rules
+-- for each log that obeys the rules
 abbrev pub LogIsSound : Type 0
 LogIsSound = (me : Member) (log : Log) → IsObedient me log → IsSound me (known me log)

@@ -1,4 +1,4 @@
--- With what a datagram is tried for evidence: with all that was admitted from its sender and may still be asked about. With what is of
+-- Which datagrams a new one is tried with for evidence: all that were admitted from its sender and may still be asked about. With those of
 -- another exchange it is tried by leaves alone.
 use Rattle.std.specs.Prelude.{◌≡◌, ◌==◌, ℕ, true, List, [], ◌∷◌, Option, Some, None, if◌then◌else◌}
 use Rattle.std.specs.Bool.{then_some}
@@ -20,23 +20,23 @@ use Rattle.bar_rules.specs.Values.{datagram_bytes, leaf_named}
 use Rattle.bar_laws.specs.Soundness.{IsSound}
 use Rattle.bar_laws.specs.Always.{InEachLog}
 
--- The exchange stands in the list of those with the sender, whose side of it isn't this member's.
+-- The exchange is among those with the sender, and the side is not this member's.
 pub record IsAmong (me : Member) (k : Knowledge) (x : Exchange) (role : Role) (d : Datagram) : Type 0 where
   pub listed : list_any (same_exchange x) (shared_with me k d.message.from) ≡ true
   pub side : role ≡ other_role (role_of me x)
 
--- each datagram of an exchange that was admitted and may still be asked about
+-- each admitted datagram of an exchange that may still be asked about
 abbrev pub TriesMissNone : Member → Knowledge → Type 0
 TriesMissNone me k =
     (kind : Kind) (x : Exchange) (role : Role) (d : Datagram) → k.heard kind x role ≡ Some d → IsRecent me k x.round → IsAmong me k x role d
 
--- whatever comes
+-- for every list of inputs
 abbrev pub RunTriesAll : Type 0
 RunTriesAll = InEachLog (λ me log. TriesMissNone me (known me log))
 
 -- ---- by leaves
 
--- the pair of an earlier datagram and this one, where their signatures name one leaf
+-- the pair of an earlier datagram and this one, if their signatures name one leaf
 abbrev pub by_leaf : Session → Datagram → Option Datagram → Option (List (List ℕ))
 by_leaf s d None = None
 by_leaf s d (Some e) = then_some (leaf_named s e == leaf_named s d) (datagram_bytes s e ∷ datagram_bytes s d ∷ [])
@@ -53,7 +53,7 @@ leaves_among me k d x [] = None
 leaves_among me k d x (y ∷ ys) =
     option_or (if same_exchange x y then None else leaves_in me.session k d y (other_role (role_of me y))) (leaves_among me k d x ys)
 
--- What is looked for in other exchanges is a leaf: no table is read, no message is compared, and nothing is hashed.
+-- In other exchanges only a leaf is looked for: no table is read, no message is compared, and nothing is hashed.
 abbrev pub OthersAreTriedByLeaves : Type 0
 OthersAreTriedByLeaves =
     (me : Member) (k : Knowledge) (d : Datagram) (p : Place) → IsSound me k → is_tried me k d ≡ true → IsDatagram me.session.shape d

@@ -1,14 +1,14 @@
-//! Balance.
+//! Balance of exchanges.
 
 ghost use Rattle.bar_laws.specs.Balance.{Balanced, KeysGoToPartners, SaidKeysWereSent};
 
-/// Balance of every exchange, whatever datagrams and ticks come.
+/// Every exchange is balanced, for every list of inputs.
 pub fn balanced()
-    // what a peer opens in an exchange, counted in items, is nothing, or as much as it promised and as it was promised by the partner's
-    // briefcase that it holds
+    // what a peer opens in an exchange, counted in items, is nothing, or equals both what it promised and what the partner's briefcase that
+    // it holds promises
     ensures opened { Balanced }
-    // each key that a peer sends goes to its partner in the exchange
+    // each key that a peer sends is for its partner in the exchange
     ensures partners { KeysGoToPartners }
-    // a key was sent exactly where it was signed, so the totals by keys that were sent are those by what is known
+    // a key was sent if and only if it was signed, so counting keys that were sent gives the same totals as what is known
     ensures said { SaidKeysWereSent }
 {}

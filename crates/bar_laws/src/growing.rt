@@ -2,12 +2,12 @@
 
 ghost use Rattle.bar_laws.specs.Growing.{CastersGrow, PartiesGrow, PeersGrow};
 
-/// Whatever comes, what a party's log has stays there: so what was heard, said, kept or announced is so ever after.
+/// For every list of inputs or moves, a party's log keeps all its entries: what was once heard, said, kept or announced remains so.
 pub fn logs_grow()
-    // of a peer, over every list of inputs
+    // for a peer, over every list of inputs
     ensures peers { PeersGrow }
-    // of a broadcaster
+    // for a broadcaster
     ensures casters { CastersGrow }
-    // of each party of a world, over every list of moves
+    // for each party of a world, over every list of moves
     ensures parties { PartiesGrow }
 {}

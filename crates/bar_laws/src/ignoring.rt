@@ -1,10 +1,10 @@
-//! What changes nothing.
+//! Which inputs change nothing.
 
 ghost use Rattle.bar_laws.specs.Ignoring.{CastersIgnore, PeersIgnore};
 
-/// Whatever comes, a datagram that isn't read leaves a party as it was, and it sends and plays nothing for it. So does one which a peer
-/// doesn't admit, that repeats none which it admitted and completes no evidence; and one that shows a broadcaster no fault of a party that
-/// isn't evicted yet.
+/// A datagram that can't be read leaves a party unchanged, and the party sends and plays nothing for it. The same holds for a peer if it
+/// doesn't admit the datagram, which repeats none that it admitted and completes no evidence. It holds for a broadcaster if the datagram
+/// shows no fault of a party that isn't evicted yet.
 pub fn ignored_datagrams_change_nothing()
     ensures peers { PeersIgnore }
     ensures casters { CastersIgnore }

@@ -1,9 +1,9 @@
-//! Signed by rule.
+//! Peers sign by the rules.
 
 ghost use Rattle.bar_laws.specs.Obedience.{SignedByRule};
 
-/// Whatever datagrams and ticks come, each datagram that a peer signs meets the rule of its moment and bears the signature of its leaf, and
-/// each signed datagram that it sends is one of these.
+/// For every list of inputs, each datagram that a peer signs meets the rule at that moment and has the signature of its leaf. Each signed
+/// datagram that it sends is one of these.
 pub fn signed_by_rule()
     ensures { SignedByRule }
 {}

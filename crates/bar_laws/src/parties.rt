@@ -1,7 +1,7 @@
 //! What holds among several parties, whatever the network and hostile parties do.
 //!
-//! Each function's contract speaks of a set of trusted parties with the broadcaster in it, and of any list of moves that forges no signature that
-//! is accepted as one of theirs. That signatures can't be forged is this premise, and no theorem.
+//! Each contract is about a set of trusted parties that contains the broadcaster, and about any list of moves that forges no accepted
+//! signature of a trusted party. That signatures can't be forged is a premise, not a theorem.
 
 ghost use Rattle.bar_laws.specs.Parties.{NobodyIsEvicted, NobodyIsAnnounced, NobodyIsAccused, KeysOpenWell, TablesAreExtended, StepIsAccepted, SentIsAccepted, HeardWasSaid};
 
@@ -10,7 +10,7 @@ pub fn nobody_is_evicted()
     ensures { NobodyIsEvicted }
 {}
 
-/// No trusted peer is announced evicted, to any peer.
+/// No trusted peer is announced evicted to any peer.
 pub fn nobody_is_announced()
     ensures { NobodyIsAnnounced }
 {}
@@ -20,7 +20,8 @@ pub fn nobody_is_accused()
     ensures { NobodyIsAccused }
 {}
 
-/// A key between two trusted peers that one of them admitted opens well, and the receiver then holds each promised update that is alive.
+/// If one of two trusted peers admitted a key from the other, the key opens well, and the receiver then holds each promised update that is
+/// alive.
 pub fn keys_open_well()
     ensures { KeysOpenWell }
 {}
@@ -30,12 +31,12 @@ pub fn tables_are_extended()
     ensures { TablesAreExtended }
 {}
 
-/// Whatever is forged, each datagram that a party sends is read, names the party as its sender, and if its kind is signed is accepted under
-/// the party's key (RFC 8554, 5.4.2).
+/// Whatever is forged, each datagram that a party sends can be read and names the party as its sender. If its kind is signed, the signature
+/// is accepted under the party's key (RFC 8554, 5.4.2).
 pub fn sent_is_accepted()
-    // at each input that a party may take
+    // for each input that a party may take
     ensures step { StepIsAccepted }
-    // of all that was ever sent
+    // for all packets that were ever sent
     ensures packets { SentIsAccepted }
 {}
 

@@ -1,4 +1,4 @@
--- What a change of one slot changes of what is found.
+-- How a change of one slot affects look-ups.
 use Rattle.std.proofs.Common.{◌≡◌, ℕ, suc, ◌+◌, ◌<◌, Bool, true, false, List, [], ◌∷◌, ◌++◌, length, take, drop, get_or, Option, Some, None, refl, sym, ap, subst, ◌∙◌, inl, inr}
 use Rattle.std.specs.Prelude.{IfSome, option_map, option_and_then, if◌then◌else◌}
 use Rattle.std.specs.Bool.{then_some}
@@ -16,8 +16,8 @@ use Rattle.bar_window.specs.Exchange.{same_exchange}
 use Rattle.bar_window.proofs.Exchanges.{same_exchange-is}
 use Rattle.bar_ledger.specs.declared.entry.Entry.{Entry}
 use Rattle.bar_ledger.specs.declared.slot.Slot.{Slot}
-use Rattle.bar_ledger.specs.Kept.{Kept, IsKeptFor, kept_of, newly, with_bytes, is_for, is_recent, if_recent, live_of}
-use Rattle.bar_ledger.specs.Slots.{HasSlotRooms, entries_of, exchanges_of}
+use Rattle.bar_ledger.specs.Code.Kept.{Kept, IsKeptFor, kept_of, newly, with_bytes, is_for, is_recent, if_recent, live_of}
+use Rattle.bar_ledger.specs.Code.Slots.{HasSlotRooms, entries_of, exchanges_of}
 use Rattle.bar_ledger.proofs.Slots.{with_part, entries-at, entries-set}
 use Rattle.bar_ledger.proofs.Finds.{IsNamed, found-this, found-changed, none-parts}
 use Rattle.bar_ledger.proofs.Distinct.{apart-parts, exchanges-part, length-part, distinct-part}
@@ -40,14 +40,14 @@ has-one : (x : Exchange) (o : Option Kept) → option_map_or (is_for x) o false 
 has-one x None e = absurd (false≢true e)
 has-one x (Some k) e = (k, refl, same_exchange-is k.entry.x x e)
 
--- The slot at a place, which keeps the exchange.
+-- The slot at this index keeps the exchange.
 pub record IsAt (x : Exchange) (life now : ℕ) (slots : List Slot) (place : ℕ) (s : Slot) : Type 0 where
   pub inside : place < length slots
   pub read : s ≡ get_or slots place s
   pub has : (d : Slot) → option_map_or (is_for x) (live_of life now (get_or slots place d)) false ≡ true
   pub distinct : IsDistinct same_exchange (exchanges_of (entries_of life now slots))
 
--- what it keeps
+-- the kept state in this slot
 pub record Keeps (x : Exchange) (life now : ℕ) (slots : List Slot) (place : ℕ) (s : Slot) : Type 0 where
   pub kept : Kept
   pub named : kept.entry.x ≡ x
@@ -82,9 +82,9 @@ keeps x life now slots place s at =
       found = ap (find (is_for x)) parts ∙ found-this x before (Some k) after (only-named x k one.2) none rest;
     }
 
--- ---- a change of what is kept of an exchange
+-- ---- a change of the kept state of an exchange
 
--- The slot is changed.
+-- The slot is replaced by a changed one.
 pub record IsChange (x : Exchange) (life now : ℕ) (slots : List Slot) (place : ℕ) (s changed : Slot) (f : Kept → Kept) : Type 0 where
   pub at : IsAt x life now slots place s
   pub kept : kept_of changed ≡ option_map f (kept_of s)
@@ -97,7 +97,7 @@ changed-live x life now slots place s changed f c k =
     ap (option_and_then (if_recent life now)) (c.kept ∙ ap (option_map f) k.is)
     ∙ ap (λ b. then_some b (f k.kept)) (ap (is_recent life now) same ∙ (live-kept life now s k.kept k.live).1)
 
--- all that is kept after it
+-- all kept states after the change
 pub change-after : (x : Exchange) (life now : ℕ) (slots : List Slot) (place : ℕ) (s changed : Slot) (f : Kept → Kept) → (c : IsChange x life now slots place s changed f)
     → entries_of life now (set slots place changed) ≡ with_part (entries_of life now (take place slots)) (Some (f (keeps x life now slots place s c.at).kept)) (entries_of life now (drop (suc place) slots))
 change-after x life now slots place s changed f c =
@@ -134,15 +134,15 @@ pub change-distinct : (x : Exchange) (life now : ℕ) (slots : List Slot) (place
 change-distinct x life now slots place s changed f c =
     subst (IsDistinct same_exchange) (sym (change-kept x life now slots place s changed f c)) c.at.distinct
 
--- the rooms stay as large
+-- the rooms keep their sizes
 pub rooms-set : (shape : Shape) (slots : List Slot) (place : ℕ) (s changed : Slot) → place < length slots → s ≡ get_or slots place s → All (HasSlotRooms shape) slots → (HasSlotRooms shape s → HasSlotRooms shape changed)
     → All (HasSlotRooms shape) (set slots place changed)
 rooms-set shape slots place s changed inside read all keep =
     All-set (HasSlotRooms shape) slots place changed (keep (subst (HasSlotRooms shape) (sym read) (all place s inside))) all
 
--- ---- an exchange more
+-- ---- one more exchange
 
--- A slot that is free is given to an exchange that isn't kept.
+-- A free slot is given to an exchange that isn't kept yet.
 pub record IsGiven (life now : ℕ) (slots : List Slot) (place : ℕ) (s given : Slot) (e : Entry) : Type 0 where
   pub inside : place < length slots
   pub read : s ≡ get_or slots place s
@@ -197,7 +197,7 @@ given-distinct life now slots place s given e g d =
     (given-none life now slots place s given e g)
     (subst (λ ks. IsDistinct same_exchange (exchanges_of ks)) (given-before life now slots place s given e g) d))
 
--- ---- what is found has the exchange, and isn't given up
+-- ---- a kept state that is found is that of the exchange, which isn't forgotten
 
 own-one : (x : Exchange) (life now : ℕ) (k : Kept) → is_recent life now k.entry.x ≡ true → is_for x k ≡ true → IsKeptFor x life now k
 own-one x life now k t same =
@@ -217,7 +217,7 @@ unfolding entries_of
 found-own x life now [] = tt
 found-own x life now (s ∷ ss) = own-slot x life now (kept_of s) (entries_of life now ss) (found-own x life now ss)
 
--- hearing leaves the entry
+-- hearing a datagram doesn't change the entry
 pub bytes-entry : (kind : Kind) (bytes : List ℕ) (k : Kept) → (with_bytes kind bytes k).entry ≡ k.entry
 bytes-entry kinds.Manifest bytes k = refl
 bytes-entry kinds.Block bytes k = refl

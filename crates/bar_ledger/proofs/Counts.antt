@@ -1,4 +1,4 @@
--- What a change of one slot changes of what is counted, and of the open exchanges.
+-- How a change of one slot affects counts and the open exchanges.
 use Rattle.std.proofs.Common.{◌≡◌, ℕ, suc, ◌+◌, Bool, cond, ◌&&◌, List, [], ◌∷◌, ◌++◌, take, drop, Option, Some, None, sym, ap, subst, ◌∙◌, arith, count_by}
 use Rattle.std.specs.Prelude.{IfSome, ◌==◌, option_and_then, option_map}
 use Rattle.std.specs.Bool.{then_some}
@@ -13,10 +13,10 @@ use Rattle.bar_window.specs.Exchange.{same_kind, same_role}
 use Rattle.bar_rules.specs.Peer.Exchanges.{with_exchange}
 use Rattle.bar_ledger.specs.declared.entry.Entry.{Entry}
 use Rattle.bar_ledger.specs.declared.slot.Slot.{Slot}
-use Rattle.bar_ledger.specs.Asking.{is_asked, asked_as, open_of, opens_of}
-use Rattle.bar_ledger.specs.Kept.{Kept, newly, with_new, is_for, if_recent}
-use Rattle.bar_ledger.specs.Memory.{StaysOpen, IsAsBefore}
-use Rattle.bar_ledger.specs.Slots.{entries_of}
+use Rattle.bar_ledger.specs.Code.Asking.{is_asked, asked_as, open_of, opens_of}
+use Rattle.bar_ledger.specs.Code.Kept.{Kept, newly, with_new, is_for, if_recent}
+use Rattle.bar_ledger.specs.Code.Memory.{StaysOpen, IsAsBefore}
+use Rattle.bar_ledger.specs.Code.Slots.{entries_of}
 use Rattle.bar_ledger.proofs.Slots.{with_part}
 use Rattle.bar_ledger.proofs.Changes.{IsChange, IsGiven, keeps, change-after, given-before, given-after}
 use Rattle.bar_ledger.proofs.Opens.{opens-part, opens-more}
@@ -30,7 +30,7 @@ count-part p before o after =
     let rest : count_by p (with_part before None after) ≡ count_by p before + count_by p after = sum_by-append part before after in
     all ∙ omega (arith, rest)
 
--- ---- an exchange more
+-- ---- one more exchange
 
 pub given-counted : (p : Kept → Bool) (life now : ℕ) (slots : List Slot) (place : ℕ) (s given : Slot) (e : Entry) → IsGiven life now slots place s given e
     → count_by p (entries_of life now (set slots place given)) ≡ count_by p (entries_of life now slots) + count_by p (option_to_list (if_recent life now (newly e)))
@@ -46,7 +46,7 @@ given-opens life now slots place s given e g =
     ∙ opens-part (entries_of life now (take place slots)) (if_recent life now (newly e)) (entries_of life now (drop (suc place) slots))
     ∙ ap (λ ks. with_exchange (option_and_then open_of (if_recent life now (newly e))) (opens_of ks)) (sym (given-before life now slots place s given e g))
 
--- ---- a change of what is kept of an exchange
+-- ---- a change of the kept state of an exchange
 
 pub change-counted : (p : Kept → Bool) (x : Exchange) (life now : ℕ) (slots : List Slot) (place : ℕ) (s changed : Slot) (f : Kept → Kept) → (c : IsChange x life now slots place s changed f)
     → count_by p (entries_of life now (set slots place changed)) + count_by p (option_to_list (find (is_for x) (entries_of life now slots)))
@@ -61,7 +61,7 @@ change-counted p x life now slots place s changed f c =
     let was : count_by p (option_to_list (find (is_for x) (entries_of life now slots))) ≡ count_by p (k.kept ∷ []) = ap (λ o. count_by p (option_to_list o)) k.found in
     omega (arith, new, old, was)
 
--- by what the new content is
+-- a change that keeps each entry doesn't change the open exchanges
 pub change-opens : (x : Exchange) (life now : ℕ) (slots : List Slot) (place : ℕ) (s changed : Slot) (f : Kept → Kept) → IsChange x life now slots place s changed f
     → ((k : Kept) → (f k).entry ≡ k.entry) → opens_of (entries_of life now (set slots place changed)) ≡ opens_of (entries_of life now slots)
 change-opens x life now slots place s changed f c same =
@@ -81,7 +81,7 @@ change-asked kind round x life now slots place s changed f c same =
     let is : count_by p (f k.kept ∷ []) ≡ count_by p (k.kept ∷ []) = ap (λ (e : Entry). count_by p (newly e ∷ [])) (same k.kept) in
     omega (arith, change-counted p x life now slots place s changed f c, was, is)
 
--- ---- another entry
+-- ---- replacing the entry
 
 pub put-asked : (kind : XKind) (round : ℕ) (e : Entry) (life now : ℕ) (slots : List Slot) (place : ℕ) (s changed : Slot) → IsChange e.x life now slots place s changed (with_new e)
     → count_by (is_asked kind round) (entries_of life now (set slots place changed)) + asked_as kind round (find (is_for e.x) (entries_of life now slots))
@@ -101,7 +101,7 @@ put-opens e life now slots place s changed c stays =
     ∙ opens-more k.kept (with_new e k.kept) (opens_of (with_part before None after)) k.named (subst (StaysOpen e) k.found stays)
     ∙ ap (λ xs. with_exchange (then_some e.first_said e.x) xs) (sym (opens-part before (Some k.kept) after) ∙ sym (ap opens_of k.parts))
 
--- one that is as before is counted and open as before
+-- if the new entry has the same side and mark, the counts and the open exchanges are unchanged
 pub same-asked : (kind : XKind) (round : ℕ) (e : Entry) (life now : ℕ) (slots : List Slot) (place : ℕ) (s changed : Slot) → IsChange e.x life now slots place s changed (with_new e) → IfSome (find (is_for e.x) (entries_of life now slots)) (IsAsBefore e)
     → count_by (is_asked kind round) (entries_of life now (set slots place changed)) ≡ count_by (is_asked kind round) (entries_of life now slots)
 same-asked kind round e life now slots place s changed c before =

@@ -1,4 +1,4 @@
--- Exchanges that are kept once each.
+-- Each exchange is kept at most once.
 use Rattle.std.proofs.Common.{◌≡◌, ◌+◌, Bool, true, false, cond, List, [], ◌∷◌, ◌++◌, length, Option, Some, None, refl, sym, ap, subst, ◌∙◌, inl, inr, arith, length-append}
 use Rattle.std.specs.Prelude.{is_some, filter}
 use Rattle.std.specs.Option.{option_to_list}
@@ -9,8 +9,8 @@ use Rattle.std.proofs.lemmas.Option.{none-some}
 use Rattle.bar_window.specs.declared.exchange.Exchange.{Exchange}
 use Rattle.bar_window.specs.Exchange.{same_exchange}
 use Rattle.bar_window.proofs.Exchanges.{same_exchange_refl, same_flips}
-use Rattle.bar_ledger.specs.Kept.{Kept, is_for}
-use Rattle.bar_ledger.specs.Slots.{exchanges_of}
+use Rattle.bar_ledger.specs.Code.Kept.{Kept, is_for}
+use Rattle.bar_ledger.specs.Code.Slots.{exchanges_of}
 use Rattle.bar_ledger.proofs.Slots.{with_part}
 
 -- the exchange differs from each of them
@@ -34,7 +34,7 @@ length-part before o after =
     let rest : length (with_part before None after) ≡ length before + length after = length-append before after in
     exchanges-length (with_part before o after) ∙ all ∙ omega (arith, rest, exchanges-length (with_part before None after))
 
--- ---- what is found, and what differs
+-- ---- look-ups of distinct exchanges
 
 pub apart-found : (x : Exchange) (ks : List Kept) → IsApart x (exchanges_of ks) → find (is_for x) ks ≡ None
 apart-found x [] a = refl
@@ -62,14 +62,14 @@ found-more x k ks e = elim (cases_Bool (is_for x k)) [ inl is ↦ rw is refl | i
 found-itself : (k : Kept) (ks : List Kept) → is_some (find (is_for k.entry.x) (k ∷ ks)) ≡ true
 found-itself k ks = let same : is_for k.entry.x k ≡ true = same_exchange_refl k.entry.x in rw same refl
 
--- what holds of each exchange that is found holds of them all
+-- if a test holds for each exchange that is found, it holds for all
 pub each-found : (test : Exchange → Bool) (ks : List Kept) → ((x : Exchange) → is_some (find (is_for x) ks) ≡ true → test x ≡ true) → list_all test (exchanges_of ks) ≡ true
 each-found test [] holds = refl
 each-found test (k ∷ ks) holds =
     let first : test k.entry.x ≡ true = holds k.entry.x (found-itself k ks) in
     rw first (each-found test ks (λ x e. holds x (found-more x k ks e)))
 
--- ---- each is found by its exchange
+-- ---- each kept state is found by its exchange
 
 abbrev pub AreFound : List Kept → List Kept → Type 0
 AreFound all ks = AllByRecursion (λ k. find (is_for k.entry.x) all ≡ Some k) ks
@@ -93,7 +93,7 @@ apart-at : (x : Exchange) (before : List Kept) (k : Kept) (after : List Kept) �
 apart-at x [] k after a = a.0
 apart-at x (b ∷ before) k after a = apart-at x before k after a.1
 
--- no other part has the exchange
+-- no other part contains the exchange
 pub apart-parts : (before : List Kept) (k : Kept) (after : List Kept) → IsDistinct same_exchange (exchanges_of (before ++ k ∷ after))
     → (find (is_for k.entry.x) before ≡ None) × (find (is_for k.entry.x) after ≡ None)
 unfolding IsDistinct
@@ -112,7 +112,7 @@ unfolding IsDistinct
 with-one z [] ys d a = (a, d)
 with-one z (x ∷ xs) ys d a = (spread (λ y. same_exchange x y ≡ false) z xs ys d.0 (same_flips x z ∙ a.0), with-one z xs ys d.1 a.1)
 
--- one part more, whose exchange isn't there
+-- one more part, whose exchange isn't in the list yet
 pub distinct-part : (x : Exchange) (before : List Kept) (o : Option Kept) (after : List Kept) → ((k : Kept) → o ≡ Some k → k.entry.x ≡ x) → find (is_for x) (with_part before None after) ≡ None
     → IsDistinct same_exchange (exchanges_of (with_part before None after)) → IsDistinct same_exchange (exchanges_of (with_part before o after))
 distinct-part x before None after named none d = d

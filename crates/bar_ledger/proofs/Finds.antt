@@ -1,4 +1,4 @@
--- What is found in a list, of which one part has the exchange.
+-- Look-ups in a list of which one part may contain the exchange.
 use Rattle.std.proofs.Common.{◌≡◌, true, false, List, ◌++◌, Option, Some, None, refl, sym, ap, subst, ◌∙◌, inl, inr}
 use Rattle.std.specs.Prelude.{if◌then◌else◌}
 use Rattle.std.specs.Option.{option_or, option_to_list}
@@ -9,11 +9,11 @@ use Rattle.std.proofs.lemmas.Option.{none-some}
 use Rattle.bar_window.specs.declared.exchange.Exchange.{Exchange}
 use Rattle.bar_window.specs.Exchange.{same_exchange}
 use Rattle.bar_window.proofs.Exchanges.{same_exchange-is, same_exchange_refl}
-use Rattle.bar_ledger.specs.Kept.{Kept, is_for}
+use Rattle.bar_ledger.specs.Code.Kept.{Kept, is_for}
 use Rattle.bar_ledger.proofs.Slots.{with_part}
 use Rattle.bar_bytes.proofs.Options.{or-none}
 
--- what there is has this exchange
+-- if there is a kept state, it is of this exchange
 abbrev pub IsNamed : Exchange → Option Kept → Type 0
 IsNamed x o = (k : Kept) → o ≡ Some k → k.entry.x ≡ x
 
@@ -34,13 +34,13 @@ found-other x y (Some k) named e =
     let other : is_for y k ≡ false = subst (λ z. same_exchange z y ≡ false) (sym (named k refl)) e in
     rw other refl
 
--- what is found of the exchange itself
+-- what a look-up of the exchange itself finds
 pub found-this : (x : Exchange) (before : List Kept) (o : Option Kept) (after : List Kept) → IsNamed x o → find (is_for x) before ≡ None → find (is_for x) after ≡ None
     → find (is_for x) (with_part before o after) ≡ o
 found-this x before o after named none rest =
     found-part x before o after ∙ (λ i. option_or (none i) (option_or (found-one x o named i) (rest i))) ∙ or-none o
 
--- a part is put in place of another one
+-- one part is replaced by another one
 pub found-changed : (x : Exchange) (before : List Kept) (old new : Option Kept) (after : List Kept) → IsNamed x old → IsNamed x new → find (is_for x) before ≡ None → find (is_for x) after ≡ None
     → (y : Exchange) → find (is_for y) (with_part before new after) ≡ (if same_exchange x y then new else find (is_for y) (with_part before old after))
 found-changed x before old new after was is none rest y = elim (cases_Bool (same_exchange x y)) [
@@ -55,7 +55,7 @@ found-changed x before old new after was is none rest y = elim (cases_Bool (same
       ∙ sym (ap (λ b. if b then new else find (is_for y) (with_part before old after)) f)
 ]
 
--- where nothing is found, no part has it
+-- if a look-up finds nothing, no part contains the exchange
 none-left : (a b : Option Kept) → option_or a b ≡ None → a ≡ None
 none-left None b e = refl
 none-left (Some k) b e = absurd (none-some k (sym e))

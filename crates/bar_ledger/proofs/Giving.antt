@@ -1,4 +1,4 @@
--- What giving up exchanges leaves.
+-- What is left after exchanges are forgotten.
 use Rattle.std.proofs.Common.{◌≡◌, ℕ, ◌+◌, ◌≤◌, Bool, true, false, cond, List, [], ◌∷◌, ◌++◌, Option, Some, None, refl, sym, ap, subst, ◌∙◌, inl, inr, arith, count_by}
 use Rattle.std.specs.Prelude.{filter, option_and_then, if◌then◌else◌}
 use Rattle.std.specs.Option.{option_to_list}
@@ -11,15 +11,15 @@ use Rattle.bar_window.specs.declared.exchange.Exchange.{Exchange}
 use Rattle.bar_window.specs.Exchange.{same_exchange}
 use Rattle.bar_window.proofs.Exchanges.{same_exchange-is}
 use Rattle.bar_ledger.specs.declared.slot.Slot.{Slot}
-use Rattle.bar_ledger.specs.Kept.{Kept, kept_of, is_for, is_recent, if_recent, live_of}
-use Rattle.bar_ledger.specs.Slots.{entries_of, exchanges_of}
+use Rattle.bar_ledger.specs.Code.Kept.{Kept, kept_of, is_for, is_recent, if_recent, live_of}
+use Rattle.bar_ledger.specs.Code.Slots.{entries_of, exchanges_of}
 use Rattle.bar_ledger.proofs.Distinct.{distinct-filter}
 
--- those whose exchange passes
+-- the kept states whose exchanges pass a test
 abbrev pub passing : (Exchange → Bool) → List Kept → List Kept
 passing test ks = filter (λ k. test k.entry.x) ks
 
--- what is recent later was recent before
+-- an exchange that is recent later is recent now
 pub recent-before : (life now later : ℕ) (x : Exchange) → now ≤ later → is_recent life later x ≡ true → is_recent life now x ≡ true
 recent-before life now later x le t = let late : later ≤ x.round + life = leb-true later (x.round + life) t in grind (arith, nat_tests, le, late)
 
@@ -38,7 +38,7 @@ entries-later life now later (s ∷ ss) le =
     (λ i. later-one life now later (kept_of s) le i ++ entries-later life now later ss le i)
     ∙ sym (filter-append (λ (k : Kept). is_recent life later k.entry.x) (option_to_list (live_of life now s)) (entries_of life now ss))
 
--- ---- in what passes
+-- ---- look-ups among those that pass
 
 found-skips : (x : Exchange) (test : Exchange → Bool) (k : Kept) (ks : List Kept) → test k.entry.x ≡ false → find (is_for x) (passing test ks) ≡ cond (test x) (find (is_for x) ks) None
     → find (is_for x) (passing test ks) ≡ cond (test x) (find (is_for x) (k ∷ ks)) None

@@ -6,11 +6,11 @@ use Rattle.std.proofs.lemmas.List.Elements.{All-push}
 use Rattle.bar_window.specs.Exchange.{same_exchange}
 use Rattle.bar_wire.specs.declared.shape.Shape.{Shape}
 use Rattle.bar_ledger.specs.declared.slot.Slot.{Slot}
-use Rattle.bar_ledger.specs.Kept.{live_of, if_recent, with_rooms}
-use Rattle.bar_ledger.specs.Slots.{HasSlotRooms, entries_of, exchanges_of}
+use Rattle.bar_ledger.specs.Code.Kept.{live_of, if_recent, with_rooms}
+use Rattle.bar_ledger.specs.Code.Slots.{HasSlotRooms, entries_of, exchanges_of}
 use Rattle.bar_ledger.proofs.Slots.{entries-none, entries-push}
 
--- So many slots are made, and keep nothing.
+-- There are `n` slots, and they keep nothing.
 pub record AreMade (shape : Shape) (slots : List Slot) (n : ℕ) : Type 0 where
   pub count : length slots ≡ n
   pub rooms : All (HasSlotRooms shape) slots

@@ -1,4 +1,4 @@
--- Who owes a key by what is kept owes it by what is known.
+-- A party owes a key by the kept state if and only if it owes it by the knowledge.
 use Rattle.std.proofs.Common.{◌≡◌, ◌∙◌, ℕ, ◌+◌, Bool, true, false, ◌&&◌, ◌||◌, List, [], ◌∷◌, Some, None, is_some, refl, sym, ap, subst, inl, inr, arith}
 use Rattle.std.specs.Prelude.{◌==◌, not, nat_le, fold, IfSome, option_and_then, if◌then◌else◌}
 use Rattle.std.specs.Option.{option_map_or}
@@ -21,16 +21,16 @@ use Rattle.bar_rules.specs.Peer.Debts as known
 use Rattle.bar_rules.specs.Peer.Exchanges.{role_of, precedes, inserted}
 use Rattle.bar_rules.specs.Peer.Knowledge.{Knowledge, this_round, answer_deadline, has_heard_of, has_said_of}
 use Rattle.bar_ledger.specs.declared.ledger.Ledger.{Ledger}
-use Rattle.bar_ledger.specs.Asking.{is_open, with_chosen, in_order}
-use Rattle.bar_ledger.specs.Debts.{is_owed, owes_by}
-use Rattle.bar_ledger.specs.Kept.{Kept, IsKeptFor}
-use Rattle.bar_ledger.specs.Lookups.{heard_by, said_by}
-use Rattle.bar_ledger.specs.Memory.{entries_in, kept_in, find_in}
-use Rattle.bar_ledger.specs.Recalls.{Recalls, IsKeptBy}
+use Rattle.bar_ledger.specs.Code.Asking.{is_open, with_chosen, in_order}
+use Rattle.bar_ledger.specs.Code.Debts.{is_owed, owes_by}
+use Rattle.bar_ledger.specs.Code.Kept.{Kept, IsKeptFor}
+use Rattle.bar_ledger.specs.Code.Lookups.{heard_by, said_by}
+use Rattle.bar_ledger.specs.Code.Memory.{entries_in, kept_in, find_in}
+use Rattle.bar_ledger.specs.Code.Recalls.{Recalls, IsKeptBy}
 use Rattle.bar_ledger.proofs.Changes.{found-own}
 use Rattle.bar_ledger.proofs.Distinct.{AreFound, found-each}
 
--- ---- whether any passes of the exchanges that are chosen
+-- ---- whether any of the chosen exchanges passes
 
 or-swap : (a b c : Bool) → (a || (b || c)) ≡ (b || (a || c))
 or-swap true true c = refl
@@ -71,7 +71,7 @@ any-fold pass test xs (k ∷ ks) =
 any-chosen : (pass : Kept → Bool) (test : Exchange → Bool) (ks : List Kept) → list_any test (in_order pass ks) ≡ list_any (λ k. pass k && test k.entry.x) ks
 any-chosen pass test ks = any-fold pass test [] ks
 
--- ---- what is kept of an exchange tells whether it is owed
+-- ---- the kept state of an exchange determines whether it is owed
 
 owed-one : (me : Member) (k : Knowledge) (l : Ledger) (party : ℕ) (kept : Kept) → Recalls me k l → find_in l kept.entry.x ≡ Some kept
     → (is_open kept && known.is_owed me k party kept.entry.x) ≡ is_owed l.shape.life party (this_round k) kept

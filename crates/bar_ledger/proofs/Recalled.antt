@@ -18,14 +18,14 @@ use Rattle.bar_rules.specs.Peer.Exchanges.{role_of, recent_of}
 use Rattle.bar_rules.specs.Peer.Knowledge.{Knowledge, nothing, this_round, with_tick}
 use Rattle.bar_rules.specs.Peer.Terms.{terms_by, offer_terms, body_on}
 use Rattle.bar_ledger.specs.declared.ledger.Ledger.{Ledger}
-use Rattle.bar_ledger.specs.Asking.{is_asked, opens_of}
-use Rattle.bar_ledger.specs.Kept.{Kept, is_for, is_recent}
-use Rattle.bar_ledger.specs.Lookups.{KeepsRecent, said_by}
-use Rattle.bar_ledger.specs.Memory.{entries_in, find_in, opens_in}
-use Rattle.bar_ledger.specs.Recalls.{IsKeptBy, complete_terms}
-use Rattle.bar_ledger.specs.Recalling.{StartsFrom, GivesUp}
+use Rattle.bar_ledger.specs.Code.Asking.{is_asked, opens_of}
+use Rattle.bar_ledger.specs.Code.Kept.{Kept, is_for, is_recent}
+use Rattle.bar_ledger.specs.Code.Lookups.{KeepsRecent, said_by}
+use Rattle.bar_ledger.specs.Code.Memory.{entries_in, find_in, opens_in}
+use Rattle.bar_ledger.specs.Code.Recalls.{IsKeptBy, complete_terms}
+use Rattle.bar_ledger.specs.Code.Recalling.{StartsFrom, GivesUp}
 
--- nothing of a side was said or heard
+-- nothing was said or heard on a side
 none-on : {A : Type 0} (f : Body → Option A) (b : Bool) → option_and_then f (option_map (λ (d : Datagram). d.message.body) (if b then None else None)) ≡ None
 none-on f true = refl
 none-on f false = refl
@@ -56,7 +56,7 @@ starts l none round me party most shape = record {
   opens = sym (ap opens_of none);
 }
 
--- what is found later was found before
+-- an exchange that is found later was found before
 kept-later : (me : Member) (x : Exchange) (b : Bool) (o : Option Kept) → IfSome o (IsKeptBy me x) → IfSome (if b then o else None) (IsKeptBy me x)
 kept-later me x true o h = h
 kept-later me x false o h = tt

@@ -1,4 +1,4 @@
--- What may still be asked about is told as before.
+-- The look-ups of exchanges that may still be asked about are unchanged.
 use Rattle.std.proofs.Common.{◌≡◌, ℕ, ◌+◌, ◌≤◌, true, false, None, sym, ap, ◌∙◌, arith, count_by}
 use Rattle.std.specs.Prelude.{filter, option_and_then, if◌then◌else◌}
 use Rattle.std.specs.Option.{option_map_or}
@@ -7,10 +7,10 @@ use Rattle.std.proofs.lemmas.Bool.{le-leb, leb-true}
 use Rattle.bar_window.specs.declared.exchange.Exchange.{Exchange}
 use Rattle.bar_window.specs.declared.exchange.XKind.{XKind}
 use Rattle.bar_ledger.specs.declared.ledger.Ledger.{Ledger}
-use Rattle.bar_ledger.specs.Asking.{is_asked, opens_of}
-use Rattle.bar_ledger.specs.Kept.{Kept, is_recent}
-use Rattle.bar_ledger.specs.Lookups.{KeepsRecent, said_by}
-use Rattle.bar_ledger.specs.Memory.{find_in, entries_in}
+use Rattle.bar_ledger.specs.Code.Asking.{is_asked, opens_of}
+use Rattle.bar_ledger.specs.Code.Kept.{Kept, is_recent}
+use Rattle.bar_ledger.specs.Code.Lookups.{KeepsRecent, said_by}
+use Rattle.bar_ledger.specs.Code.Memory.{find_in, entries_in}
 use Rattle.bar_ledger.proofs.Giving.{passing, count-passing}
 use Rattle.bar_ledger.proofs.Opens.{IsUpward, opens-passing}
 use Rattle.bar_rules.proofs.Inserted.{precedes-round}

@@ -1,4 +1,4 @@
-//! Until when the datagrams of an exchange are admitted, sent again and answered.
+//! Up to which round the datagrams of an exchange are admitted, sent again and answered.
 ghost use Rattle.std.specs.Prelude.{◌≡◌, ◌+◌, nat_le};
 
 use crate::ledger::Ledger;
@@ -7,10 +7,10 @@ use bar_window::Exchange;
 /// For how many rounds after its own a REQUEST or a QUERY is admitted, sent again and answered.
 pub const REQUEST_DEADLINE: u8 = 1;
 
-/// For how many rounds after its own all of an exchange is admitted and sent again that comes after its request, up to the CASEs.
+/// For how many rounds after its own the later datagrams of an exchange, up to the CASEs, are admitted and sent again.
 pub const ANSWER_DEADLINE: u8 = 2;
 
-/// Whether a round is at most so many after another one.
+/// Whether `now` is at most `after` rounds after `round`.
 pub fn is_within(now: u32, round: u32, after: u8) -> bool
     ensures { result ≡ nat_le now (round + after) }
 {
@@ -18,7 +18,7 @@ pub fn is_within(now: u32, round: u32, after: u8) -> bool
 }
 
 impl Ledger {
-    /// Whether this round is at most so many after that of an exchange.
+    /// Whether the current round is at most `after` rounds after that of an exchange.
     pub fn is_within(&self, x: Exchange, after: u8) -> bool
         ensures { result ≡ nat_le self.now.round (x.round + after) }
     {

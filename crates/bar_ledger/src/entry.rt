@@ -2,7 +2,7 @@ use crate::exchanges::opening_kind;
 use bar_window::{Exchange, Role, Terms};
 use bar_wire::Kind;
 
-/// What a peer knows of an exchange besides what it heard.
+/// What a peer knows of an exchange besides the datagrams that it heard.
 #[derive(Clone, Copy, Debug)]
 pub struct Entry {
     pub x: Exchange,
@@ -10,11 +10,11 @@ pub struct Entry {
     pub role: Role,
     /// The responder's seat, 0 or 1.
     pub seat: u8,
-    /// The terms, as far as they are known: windows that aren't known yet are empty, and numbers are 0.
+    /// The terms, as far as they are known. Unknown windows are empty, and unknown numbers are 0.
     pub terms: Terms,
     /// Whether both sides' parts of the terms are known.
     pub complete: bool,
-    /// Whether this peer's first message is said.
+    /// Whether this peer said its first message.
     pub first_said: bool,
     pub case_said: bool,
     pub key_said: bool,
@@ -22,9 +22,9 @@ pub struct Entry {
 
 impl Entry {
     ghost use Rattle.std.specs.Prelude.{◌≡◌};
-    ghost use Rattle.bar_ledger.specs.Lookups.{is_said};
+    ghost use Rattle.bar_ledger.specs.Code.Lookups.{is_said};
 
-    /// Whether it has the mark of a kind: that this peer said its CASE, its KEY or its first signed datagram.
+    /// Whether this peer said its datagram of a kind: its CASE, its KEY or its first signed datagram.
     pub(crate) fn is_said(&self, kind: Kind) -> bool
         ensures { result ≡ is_said kind self.now }
     {

@@ -1,16 +1,16 @@
-//! Which exchange is the next, which kind of datagram opens one, and when its KEYs are due.
+//! The order of exchanges, the kind of datagram that opens one, and when its KEYs are due.
 ghost use Rattle.std.specs.Prelude.{◌≡◌, Some};
 ghost use Rattle.bar_rules.specs.Peer.Debts.{is_due};
 ghost use Rattle.bar_rules.specs.Peer.Exchanges.{opening_kind};
-ghost use Rattle.bar_ledger.specs.Hearing.{hears, is_opening};
-ghost use Rattle.bar_ledger.specs.Naming.{is_beside};
-ghost use Rattle.bar_ledger.specs.Order.{is_above, is_below, best_with};
+ghost use Rattle.bar_ledger.specs.Code.Hearing.{hears, is_opening};
+ghost use Rattle.bar_ledger.specs.Code.Naming.{is_beside};
+ghost use Rattle.bar_ledger.specs.Code.Order.{is_above, is_below, best_with};
 
 use crate::deadlines::ANSWER_DEADLINE;
 use bar_window::{Exchange, Role, XKind};
 use bar_wire::Kind;
 
-/// Whether an exchange is past the time of its CASEs in a round, and its KEYs may still be given.
+/// Whether the KEYs of an exchange are due in a round: `ANSWER_DEADLINE` rounds or more after its own, while KEYs may still be given.
 pub(crate) fn is_due(x: Exchange, life: u8, now: u32) -> bool
     ensures { result ≡ is_due life x.round now }
 {
@@ -19,7 +19,7 @@ pub(crate) fn is_due(x: Exchange, life: u8, now: u32) -> bool
     round + u64::from(ANSWER_DEADLINE) <= now && now <= round + u64::from(life)
 }
 
-/// Whether an exchange is another one than the first, and one of its parties is this.
+/// Whether `y` is another exchange than `x` and the party is one of its two.
 pub(crate) fn is_beside(x: Exchange, party: u16, y: Exchange) -> bool
     ensures { result ≡ is_beside x party y }
 {
@@ -38,7 +38,7 @@ pub fn opening_kind(kind: XKind, role: Role) -> Kind
     }
 }
 
-/// Whether a kind is that of the first signed datagram of the other side.
+/// Whether a kind is that of the other side's first signed datagram.
 pub(crate) fn opens(kind: Kind, x: Exchange, role: Role) -> bool
     ensures { result ≡ is_opening kind x.kind role }
 {
@@ -66,7 +66,7 @@ pub(crate) fn hears(kind: Kind, x: Exchange, role: Role) -> bool
     }
 }
 
-/// The exchange, where it stands above one and below the other, and otherwise the other.
+/// The exchange, if it is above `after` and below `best`; else `best`.
 pub(crate) fn least_above(
     x: Exchange,
     after: Option<Exchange>,

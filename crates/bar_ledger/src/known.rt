@@ -1,8 +1,8 @@
-//! What a ledger knows of the terms of an exchange.
+//! What a ledger knows about the terms of an exchange.
 ghost use Rattle.std.specs.Prelude.{◌≡◌, is_some, false};
 ghost use Rattle.std.specs.Option.{option_map_or};
-ghost use Rattle.bar_ledger.specs.Lookups.{complete_by, is_known_in, knows_answer, knows_commit, knows_offer};
-ghost use Rattle.bar_ledger.specs.Memory.{find_in};
+ghost use Rattle.bar_ledger.specs.Code.Lookups.{complete_by, is_known_in, knows_answer, knows_commit, knows_offer};
+ghost use Rattle.bar_ledger.specs.Code.Memory.{find_in};
 
 use crate::ledger::Ledger;
 use bar_window::{Exchange, Role};
@@ -19,7 +19,7 @@ impl Ledger {
         }
     }
 
-    /// Whether it is known what the initiator of a balanced exchange commits to.
+    /// Whether the nonce and history that the initiator of a balanced exchange commits to are known.
     pub fn knows_commit(&self, x: Exchange) -> bool
         ensures { result ≡ is_known_in knows_commit self.now x }
     {
@@ -32,7 +32,7 @@ impl Ledger {
         }
     }
 
-    /// Whether it is known what the responder answers.
+    /// Whether the responder's answer is known.
     pub fn knows_answer(&self, x: Exchange) -> bool
         ensures { result ≡ is_known_in knows_answer self.now x }
     {
@@ -45,7 +45,7 @@ impl Ledger {
         }
     }
 
-    /// Whether it is known what the initiator of a push offers.
+    /// Whether the offer of the initiator of a push is known.
     pub fn knows_offer(&self, x: Exchange) -> bool
         ensures { result ≡ is_known_in knows_offer self.now x }
     {

@@ -1,4 +1,4 @@
-//! What a peer remembers of its exchanges: what it said and heard of each, in rooms that are taken at the start.
+//! What a peer remembers of its exchanges: what it said and heard in each, in rooms that are allocated at the start.
 #![tactic(auto)]
 
 mod deadlines;

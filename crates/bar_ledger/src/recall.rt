@@ -1,10 +1,10 @@
-//! What a ledger tells of an exchange, by kind and side.
+//! What a ledger recalls of an exchange, by kind and side.
 ghost use Rattle.std.specs.Prelude.{◌≡◌, is_some, option_copied};
 ghost use Rattle.bar_rules.specs.Member.{Member};
 ghost use Rattle.bar_rules.specs.Peer.Exchanges.{role_of};
 ghost use Rattle.bar_rules.specs.Peer.Knowledge.{Knowledge};
-ghost use Rattle.bar_ledger.specs.Lookups.{heard_in, said_in};
-ghost use Rattle.bar_ledger.specs.Recalls.{Recalls};
+ghost use Rattle.bar_ledger.specs.Code.Lookups.{heard_in, said_in};
+ghost use Rattle.bar_ledger.specs.Code.Recalls.{Recalls};
 
 use crate::ledger::Ledger;
 use bar_window::{Exchange, Role};
@@ -22,7 +22,7 @@ impl Ledger {
         }
     }
 
-    /// The datagram of a side that was heard.
+    /// The datagram of a kind that was heard from a side.
     pub fn heard_from(&self, x: Exchange, kind: Kind, role: Role) -> Option<&[u8]>
         ensures { option_copied result ≡ heard_in self.now kind x role }
     {
@@ -34,7 +34,7 @@ impl Ledger {
         }
     }
 
-    /// Whether a datagram of a side was heard.
+    /// Whether a datagram of a kind was heard from a side.
     pub fn has_heard(&self, x: Exchange, kind: Kind, role: Role) -> bool
         ensures { result ≡ is_some (heard_in self.now kind x role) }
     {

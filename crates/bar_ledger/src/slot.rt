@@ -1,18 +1,18 @@
-//! A slot for one exchange: its entry, and rooms for what is heard of it.
+//! A slot for one exchange: its entry, and rooms for the datagrams that are heard in it.
 ghost use Rattle.std.specs.Prelude.{◌≡◌, ◌≤◌, Some, None, IfOk, length, is_some, option_map, option_and_then, option_copied, IfSome, true, false, if◌then◌else◌};
 ghost use Rattle.std.specs.Option.{option_map_or};
 ghost use Rattle.bar_window.specs.Limits.{most_items};
 ghost use Rattle.bar_window.specs.Terms.{plain_terms};
 ghost use Rattle.bar_wire.specs.Limits.{largest_datagram};
 ghost use Rattle.bar_terms.specs.Terms.{promise};
-ghost use Rattle.bar_ledger.specs.Kept.{kept_of, newly, with_new, with_bytes, heard_of, live_of, is_for, keeps};
+ghost use Rattle.bar_ledger.specs.Code.Kept.{kept_of, newly, with_new, with_bytes, heard_of, live_of, is_for, keeps};
 ghost use Rattle.bar_wire.specs.declared.shape.Shape.{Shape};
-ghost use Rattle.bar_ledger.specs.Hearing.{is_opening};
-ghost use Rattle.bar_ledger.specs.Naming.{names, shares_leaf};
-ghost use Rattle.bar_ledger.specs.Asking.{chosen, is_any, is_asked, open_of};
-ghost use Rattle.bar_ledger.specs.Debts.{is_owed};
-ghost use Rattle.bar_ledger.specs.Slots.{HasSlotRooms, size_for};
-ghost use Rattle.bar_ledger.specs.Totals.{totals_by, no_totals, CanTotal, AreSound};
+ghost use Rattle.bar_ledger.specs.Code.Hearing.{is_opening};
+ghost use Rattle.bar_ledger.specs.Code.Naming.{names, shares_leaf};
+ghost use Rattle.bar_ledger.specs.Code.Asking.{chosen, is_any, is_asked, open_of};
+ghost use Rattle.bar_ledger.specs.Code.Debts.{is_owed};
+ghost use Rattle.bar_ledger.specs.Code.Slots.{HasSlotRooms, size_for};
+ghost use Rattle.bar_ledger.specs.Code.Totals.{totals_by, no_totals, CanTotal, AreSound};
 
 use crate::entry::Entry;
 use crate::exchanges::{is_beside, is_due, opens};
@@ -52,7 +52,7 @@ impl Slot {
         })
     }
 
-    /// Whether it keeps an exchange that isn't given up in a round.
+    /// Whether the slot keeps an exchange that isn't forgotten in a round.
     pub(crate) fn is_live(&self, life: u8, round: u32) -> bool
         ensures { result ≡ is_some (live_of life round self.now) }
     {
@@ -71,14 +71,14 @@ impl Slot {
         }
     }
 
-    /// Whether it keeps this exchange, and doesn't give it up in a round.
+    /// Whether the slot keeps this exchange, and it isn't forgotten in a round.
     pub(crate) fn keeps(&self, x: Exchange, life: u8, round: u32) -> bool
         ensures { result ≡ keeps x life round self.now }
     {
         self.is_live(life, round) && self.is_of(x)
     }
 
-    /// Whether it keeps an exchange of a round and kind that this peer was asked for, and doesn't give it up in another round.
+    /// Whether the slot keeps an exchange of a round and kind that this peer was asked for, and that isn't forgotten in round `now`.
     pub(crate) fn is_asked(&self, round: u32, kind: XKind, life: u8, now: u32) -> bool
         ensures { result ≡ option_map_or (is_asked kind round) (live_of life now self.now) false }
     {
@@ -93,7 +93,7 @@ impl Slot {
         }
     }
 
-    /// Whether it keeps another exchange than this one, with a party, of which a signed datagram was heard that names a leaf.
+    /// Whether the slot keeps another exchange than `x`, with a party, in which a signed datagram was heard that names a leaf.
     pub(crate) fn shares_leaf<V: Verifier>(
         &self,
         verifier: &V,
@@ -113,7 +113,7 @@ impl Slot {
                 || names(verifier, self.key.kept(), leaf))
     }
 
-    /// Whether it does, and doesn't give it up in a round.
+    /// The same, if the exchange isn't forgotten in a round; else false.
     pub(crate) fn names_leaf<V: Verifier>(
         &self,
         verifier: &V,
@@ -129,8 +129,8 @@ impl Slot {
         self.is_live(life, round) && self.shares_leaf(verifier, x, party, leaf)
     }
 
-    /// Whether a party owes the KEY of its exchange in a round: that is open and with the party, its KEYs are due, this peer's is said and
-    /// the party's isn't heard. That of one that is given up in another round isn't owed.
+    /// Whether a party owes the KEY of the slot's exchange in a round: the exchange is open and with the party, its KEYs are due, this
+    /// peer's is said and the party's isn't heard. If the exchange is forgotten in round `round`, none is owed.
     pub(crate) fn is_owed(&self, party: u16, now: u32, life: u8, round: u32) -> bool
         ensures { result ≡ option_map_or (is_owed life party now) (live_of life round self.now) false }
     {
@@ -145,7 +145,7 @@ impl Slot {
             && self.key.kept().is_none()
     }
 
-    /// Its exchange, where it isn't given up in a round.
+    /// The slot's exchange, if it isn't forgotten in a round.
     pub(crate) fn exchange(&self, life: u8, round: u32) -> Option<Exchange>
         ensures { result ≡ option_and_then (chosen is_any) (live_of life round self.now) }
     {
@@ -153,7 +153,7 @@ impl Slot {
         self.is_live(life, round).then_some(entry.x)
     }
 
-    /// Its exchange, where this peer said its first message in it and it isn't given up in a round.
+    /// The slot's exchange, if this peer said its first message in it and it isn't forgotten in a round.
     pub(crate) fn open(&self, life: u8, round: u32) -> Option<Exchange>
         ensures { result ≡ option_and_then open_of (live_of life round self.now) }
     {
@@ -161,7 +161,7 @@ impl Slot {
         (entry.first_said && self.is_live(life, round)).then_some(entry.x)
     }
 
-    /// Gives the slot to another exchange, of which nothing is heard.
+    /// Gives the slot to another exchange, without any datagram.
     pub(crate) fn renew(&mut self, entry: Entry)
         ensures kept { kept_of self.new ≡ Some (newly entry) }
         ensures rooms { (shape : Shape) → HasSlotRooms shape self.old → HasSlotRooms shape self.new }
@@ -174,7 +174,7 @@ impl Slot {
         self.key.empty();
     }
 
-    /// Changes the entry, where there is one.
+    /// Replaces the entry, if there is one.
     pub(crate) fn put(&mut self, entry: Entry)
         ensures kept { kept_of self.new ≡ option_map (with_new entry) (kept_of self.old) }
         ensures rooms { (shape : Shape) → HasSlotRooms shape self.old → HasSlotRooms shape self.new }
@@ -184,7 +184,7 @@ impl Slot {
         }
     }
 
-    /// Keeps a datagram that is heard.
+    /// Keeps a datagram that was heard.
     pub(crate) fn hear(&mut self, kind: Kind, bytes: &[u8])
         requires { length bytes.now ≤ size_for kind self.old }
         ensures kept { kept_of self.new ≡ option_map (with_bytes kind bytes.now) (kept_of self.old) }
@@ -227,7 +227,7 @@ impl Slot {
         }
     }
 
-    /// The other side's first signed datagram, where it is of this kind.
+    /// The other side's first signed datagram, if it is of this kind.
     fn opening(&self, kind: Kind, entry: &Entry) -> Option<&[u8]>
         ensures { option_copied result ≡ (if is_opening kind entry.now.x.kind entry.now.role then self.now.first.kept else None) }
     {
@@ -238,7 +238,7 @@ impl Slot {
         }
     }
 
-    /// What was promised, received and opened.
+    /// The totals of what was promised, received and opened.
     pub(crate) fn totals(&self, cap: u8) -> Totals
         requires cap { cap ≤ most_items }
         requires terms { IfSome (kept_of self.now) (CanTotal cap) }
@@ -271,7 +271,7 @@ pub fn names<V: Verifier>(verifier: &V, datagram: Option<&[u8]>, leaf: u32) -> b
     len <= bytes.len() && verifier.leaf_in(&bytes[bytes.len() - len..]) == leaf
 }
 
-/// How many items a side promises, where it did.
+/// How many items a side promised: 0 unless `promised` is true.
 fn size_if(promised: bool, entry: &Entry, role: Role, cap: u8) -> u8
     requires cap { cap ≤ most_items }
     requires terms { promised ≡ true → AreSound cap entry.now.terms }

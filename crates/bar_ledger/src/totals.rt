@@ -1,4 +1,4 @@
-/// How many items this peer promised in an exchange, was promised, and gave a key for. Junk counts.
+/// How many items this peer promised in an exchange, was promised, and gave a key for. Junk items count.
 #[derive(Clone, Copy, Debug, PartialEq, Eq)]
 pub struct Totals {
     pub promised: u8,

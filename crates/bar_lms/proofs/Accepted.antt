@@ -1,4 +1,4 @@
--- What is signed is accepted.
+-- Signatures of a key are accepted under its public key.
 use Rattle.std.proofs.Common.{◌≡◌, ℕ, zero, suc, ◌+◌, ◌-◌, ◌*◌, ◌/◌, ◌%◌, ◌^◌, ◌≤◌, ◌<◌, ◌++◌, length, take, drop, List, [], ◌∷◌, refl, arith, ap, sym, ◌∙◌, inl, inr, add-one, slice_index, length-append, pow_pos}
 use Rattle.std.proofs.lemmas.List.{append_assoc, append-nil, take_at, drop_at}
 use Rattle.std.proofs.lemmas.Nat.{from_be_bytes-to_be_bytes_4, div-mul-add}
@@ -46,7 +46,7 @@ unfolding joined
 length-joined f zero long = refl
 length-joined f (suc n) long = omega (arith, length-append (joined f n) (f n), length-joined f n long, long n)
 
--- hash i of a row that was joined
+-- hash i of a concatenation of hashes
 joined_at : (f : ℕ → List ℕ) (n : ℕ) (rest : List ℕ) (i : ℕ) → ((k : ℕ) → length (f k) ≡ 32) → i < n → hash_at (joined f n ++ rest) i ≡ f i
 unfolding joined hash_at
 joined_at f zero rest i long below = absurd (omega arith)
@@ -64,7 +64,7 @@ unfolding joined
 joined_same f g zero same = refl
 joined_same f g (suc n) same = rw (joined_same f g n (λ i lt. same i (omega arith)), same n (omega arith)) refl
 
--- steps after steps
+-- steps of a chain followed by more steps
 chain-chain : (at : List ℕ) (a b : ℕ) (x : List ℕ) → chain at a b (chain at 0 a x) ≡ chain at 0 (a + b) x
 unfolding chain
 chain-chain at a zero x = let e : a + 0 ≡ a = omega arith in rw e refl
@@ -80,7 +80,7 @@ digit_le : (ots : Ots) (hash : List ℕ) (i : ℕ) → digit ots hash i ≤ last
 unfolding coef
 digit_le ots hash i = omega (arith, last-power ots, pow_pos (digit_bits ots))
 
--- the end of a chain that was signed
+-- the end of a chain, starting from its value in a signature
 end_of_signed : (t : Private) (q : ℕ) (hash rest : List ℕ) (i : ℕ) → i < chains t.params.ots
     → end_at t.ident q t.params.ots hash (joined (signed_value t q hash) (chains t.params.ots) ++ rest) i ≡ whole_value t q i
 unfolding end_at signed_value whole_value value
@@ -110,7 +110,7 @@ node_right t n x odd =
     let right : 2 * (x / 2) + 1 ≡ x = omega arith in
     rw (left, right) refl
 
--- the same with the siblings on the way
+-- the same with the siblings on the path
 side_left : (t : Private) (q n x : ℕ) → x % 2 ≡ 0 → x ≡ (2 ^ levels t.params.height + q) / 2 ^ n
     → parent t.ident (x / 2) (node t n x) (sibling_at t q n) ≡ node t (suc n) (x / 2)
 unfolding sibling_at
@@ -121,7 +121,7 @@ side_right : (t : Private) (q n x : ℕ) → x % 2 ≡ 1 → x ≡ (2 ^ levels t
 unfolding sibling_at
 side_right t q n x odd is = rw (← is) (node_right t n x odd)
 
--- the way up from a leaf of the tree goes through its nodes
+-- the path up from a leaf of the tree consists of its nodes
 climb_tree : (t : Private) (q n : ℕ)
     → climb t.ident (sibling_at t q) (2 ^ levels t.params.height + q) (node t 0 (2 ^ levels t.params.height + q)) n
     ≡ node t n ((2 ^ levels t.params.height + q) / 2 ^ n)
@@ -190,7 +190,7 @@ length-sibling_at : (t : Private) (q level : ℕ) → length (sibling_at t q lev
 unfolding sibling_at
 length-sibling_at t q level = length-node t level _
 
--- a row alone
+-- the same with nothing after the row
 joined_alone : (f : ℕ → List ℕ) (n i : ℕ) → ((k : ℕ) → length (f k) ≡ 32) → i < n → hash_at (joined f n) i ≡ f i
 joined_alone f n i long below = rw append-nil at (joined_at f n [] i long below)
 
@@ -200,7 +200,7 @@ leaf_of : (t : Private) (q : ℕ) → leaf_node t.ident (2 ^ levels t.params.hei
 unfolding node leaf_key
 leaf_of t q = let number : 2 ^ levels t.params.height + q - 2 ^ levels t.params.height ≡ q = omega arith in rw number refl
 
--- the way ends at the root
+-- the path ends at the root
 at_root : (h q : ℕ) → q < 2 ^ h → (2 ^ h + q) / 2 ^ h ≡ 1
 at_root h q leaf = let e : 1 * 2 ^ h + q ≡ 2 ^ h + q = omega arith in rw e at (div-mul-add 1 (2 ^ h) q leaf)
 

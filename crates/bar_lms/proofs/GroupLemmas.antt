@@ -1,19 +1,19 @@
--- Sums and greatest numbers over groups of eight chains.
+-- Sums and maxima over groups of eight chains.
 use Rattle.std.proofs.Common.{◌≡◌, ℕ, zero, suc, ◌+◌, ◌*◌, ◌/◌, ◌%◌, ◌-◌, ◌≤◌, ◌<◌, ◌==◌, max, true, false, refl, arith, ap, ◌∙◌, inl, inr}
 use Rattle.std.proofs.lemmas.Bool.{cases_lt, cases_eq, eq-eqb, ne_eqb}
 use Rattle.bar_lms.specs.Chains.{total_from, most_of, pair_at, in_pairs, in_group, by_eights}
 
--- one number more
+-- the sum of one more number
 pub from_more : (f : ℕ → ℕ) (first n : ℕ) → total_from f first (n + 1) ≡ total_from f first n + f (first + n)
 unfolding total_from
 from_more f first n = let e : n + 1 ≡ suc n = omega arith in rw e refl
 
--- one group of sixteen more
+-- one more group of sixteen
 pub pairs_more : (f : ℕ → ℕ) (g : ℕ) → in_pairs f (g + 1) ≡ in_pairs f g + 8 * most_of (pair_at f (16 * g)) 0 8
 unfolding in_pairs
 pairs_more f g = let e : g + 1 ≡ suc g = omega arith in rw e refl
 
--- the greatest of none, and of one number more
+-- the maximum of no numbers, and of one more number
 pub most_none : (f : ℕ → ℕ) (first : ℕ) → most_of f first 0 ≡ 0
 unfolding most_of
 most_none f first = refl
@@ -22,7 +22,7 @@ pub most_more : (f : ℕ → ℕ) (first n : ℕ) → most_of f first (n + 1) �
 unfolding most_of
 most_more f first n = let e : n + 1 ≡ suc n = omega arith in rw e refl
 
--- the greatest of the same numbers at other places
+-- the maximum of the same numbers at other places
 pub most_same : (f g : ℕ → ℕ) (a b n : ℕ) → ((j : ℕ) → j < n → f (a + j) ≡ g (b + j)) → most_of f a n ≡ most_of g b n
 unfolding most_of
 most_same f g a b zero same = refl
@@ -30,13 +30,13 @@ most_same f g a b (suc n) same =
     let rest = most_same f g a b n (λ j below. same j (omega (arith, below))) in
     rw (rest, same n (omega arith)) refl
 
--- the greatest of numbers with a bound
+-- the maximum of numbers with a bound
 pub most_within : (f : ℕ → ℕ) (most first n : ℕ) → ((i : ℕ) → f i ≤ most) → most_of f first n ≤ most
 unfolding most_of
 most_within f most first zero each = omega arith
 most_within f most first (suc n) each = omega (arith, each (first + n), most_within f most first n each)
 
--- none of the first n numbers is greater than the greatest of them
+-- none of the first n numbers is above their maximum
 pub most_above : (f : ℕ → ℕ) (first n j : ℕ) → j < n → f (first + j) ≤ most_of f first n
 unfolding most_of
 most_above f first zero j below = absurd (omega (arith, below))
@@ -46,7 +46,7 @@ most_above f first (suc n) j below =
       | inr not_less ↦ let e : j ≡ n = omega (arith, below, not_less) in rw e (omega arith)
     ]
 
--- the same numbers
+-- the hashes of groups with the same numbers of steps
 pairs_same : (f g : ℕ → ℕ) (n : ℕ) → ((j : ℕ) → j < 16 * n → f j ≡ g j) → in_pairs f n ≡ in_pairs g n
 unfolding in_pairs
 pairs_same f g zero same = refl
@@ -128,7 +128,7 @@ unfolding total_from
 from_within f most first zero each = omega arith
 from_within f most first (suc n) each = omega (arith, each (first + n), from_within f most first n each)
 
--- the hashes of n chains, none of which takes more than so many steps
+-- the hashes of n chains, none of which takes more than `most` steps
 pub eights_within : (f : ℕ → ℕ) (most n : ℕ) → ((i : ℕ) → f i ≤ most) → by_eights f n ≤ n * most
 unfolding by_eights
 eights_within f most n each =

@@ -1,4 +1,4 @@
--- What is signed with two levels is accepted, has its length and names its leaf.
+-- Signatures of two levels are accepted, have their length and name their leaf.
 use Rattle.std.proofs.Common.{◌≡◌, ℕ, ◌+◌, ◌/◌, ◌%◌, ◌<◌, ◌≤◌, ◌++◌, true, false, length, take, drop, List, refl, arith, ap, subst, ◌∙◌, length-append}
 use Rattle.std.proofs.lemmas.Bool.{and_parts, and_from, eqb-true, eq-eqb}
 use Rattle.std.proofs.lemmas.List.{append_assoc, take_at, drop_at, take-append-le, take-take, length-take-le}
@@ -18,7 +18,7 @@ use Rattle.bar_lms.proofs.Decided.{passes, tree_key, tree_accepts, made_ident, u
 use Rattle.bar_lms.proofs.DigitLemmas.{level_facts}
 use Rattle.bar_lms.proofs.StepLemmas.{few_under}
 
--- the facts of what is formed
+-- the test of acceptance decides acceptance
 pub formed_test : (top low : Params) (key message sig : List ℕ) → Decides (is_hss_accepted top low key message sig) (HssAccepts top low key message sig)
 unfolding is_hss_accepted is_hss_formed
 formed_test top low key message sig = (
@@ -42,7 +42,7 @@ formed_test top low key message sig = (
       (and_from _ _ a.upper a.lower),
 )
 
--- ---- the parts of what is joined
+-- ---- the parts of a concatenation
 
 record Parts (sig a u k w : List ℕ) (n : ℕ) : Type 0 where
   whole : length sig ≡ 60 + n + length w
@@ -74,7 +74,7 @@ number_one = from_be_bytes-to_be_bytes_4 1 (omega arith)
 number_two : from_be_bytes w32 (to_be_bytes w32 2) ≡ 2
 number_two = from_be_bytes-to_be_bytes_4 2 (omega arith)
 
--- ---- a secret's own
+-- ---- a secret's own signatures
 
 lower_ident : (s : HssSecret) (j : ℕ) → length (lower_of s j).ident ≡ 16
 unfolding lower_of
@@ -192,7 +192,7 @@ hss_leaf s leaf message below five =
     let small : leaf / 32 < 32768 = rw n at few in
     rw (upper, lower, n) (omega (arith, small))
 
--- few hashes
+-- acceptance takes at most `hss_most_steps` hashes
 pub hss_few : (top low : Params) (key message sig : List ℕ) → hss_steps_taken top low key message sig ≤ hss_most_steps top low
 unfolding hss_steps_taken
 hss_few top low key message sig =
@@ -211,7 +211,7 @@ accepted-leaf p key message sig accepted =
     let a = (under_test p key message sig).0 accepted in
     subst (λ (q : Params). number_at sig 0 < leaves_of q) a.params a.accepted.leaf
 
--- the first number of a part is that of the whole at its place
+-- the first number of a part is the number of the whole at its place
 upper-number : (top : Params) (sig : List ℕ) → number_at (upper_part top sig) 0 ≡ number_at sig 4
 upper-number top sig = ap (from_be_bytes w32) (take-take 4 (signature_len top) (drop 4 sig) (signature_some top))
 

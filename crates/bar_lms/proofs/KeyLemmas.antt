@@ -8,7 +8,7 @@ use Rattle.bar_lms.specs.Params.{lms_type, ots_type}
 use Rattle.bar_lms.specs.Signature.{Public, IsPublic, key_bytes, number_at}
 use Rattle.bar_lms.proofs.Accepted.{lms_fits, ots_fits}
 
--- a row in its parts
+-- 56 bytes in their four parts
 in_parts : (bytes : List ℕ) → take 4 (drop 0 bytes) ++ take 4 (drop 4 bytes) ++ take 16 (drop 8 bytes) ++ drop 24 bytes ≡ bytes
 in_parts bytes =
     let last : take 16 (drop 8 bytes) ++ drop 24 bytes ≡ drop 8 bytes =
@@ -29,7 +29,7 @@ part_fits bytes at fits i =
       | inr past ↦ rw (get_or_past (take 4 (drop at bytes)) i 0 (omega (arith, length-take {A = ℕ}))) (omega arith)
     ]
 
--- four bytes are those of their number
+-- four bytes are the encoding of their number
 number_bytes : (bytes : List ℕ) (at n : ℕ) → at + 4 ≤ length bytes → ((i : ℕ) → get_or bytes i 0 < 256) → number_at bytes at ≡ n → take 4 (drop at bytes) ≡ to_be_bytes w32 n
 number_bytes bytes at n room fits is =
     sym (be_bytes_4 (take 4 (drop at bytes)) n (length-take-le 4 (drop at bytes) (omega (arith, length-drop {A = ℕ}))) (part_fits bytes at fits) (sym is))

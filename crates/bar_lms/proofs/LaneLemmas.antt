@@ -5,8 +5,8 @@ use Rattle.sha2.specs.Sha256.{sha256}
 use Rattle.bar_lms.specs.Chains.{chain_buffer}
 use Rattle.bar_lms.specs.declared.legs.Legs.{Legs}
 use Rattle.bar_lms.specs.declared.legs.Eight.{Eight}
-use Rattle.bar_lms.specs.Lanes.{Leg, leg_at, leg_of, leg_end, lane_held, lane_begun}
-use Rattle.bar_lms.specs.Order.{reached}
+use Rattle.bar_lms.specs.Code.Lanes.{Leg, leg_at, leg_of, leg_end, lane_held, lane_begun}
+use Rattle.bar_lms.specs.Code.Order.{reached}
 use Rattle.bar_lms.proofs.ChainLemmas.{buffer_none, buffer_value, buffer_more, buffer_head}
 
 -- before any step
@@ -16,7 +16,7 @@ held_none a b n now small none is =
     let test : nat_lt a.count n ≡ false = le-ltb a.count n (omega (arith, none)) in
     rw test (is ∙ buffer_none a.at a.from n a.value small none)
 
--- the second leg is begun where the first is over
+-- the second leg is begun when the first is over
 pub begun_by : (a b : Leg) (n : ℕ) (now second next : List ℕ) → b.from < 256 → now ≡ lane_held a b n → second ≡ b.at ++ b.from ∷ b.value
     → next ≡ (if a.count == n then second else now) → next ≡ lane_begun a b n
 unfolding lane_held lane_begun
@@ -40,7 +40,7 @@ begun_by a b n now second next small held begins is =
           ]
     ]
 
--- and the value of the first is kept there
+-- the value of the first leg is kept when it is over
 pub end_kept : (a b : Leg) (n : ℕ) (now before end : List ℕ) → length a.at ≡ 22 → now ≡ lane_held a b n → (a.count < n → before ≡ leg_end a)
     → end ≡ (if a.count == n then drop 23 now else before) → a.count ≤ n → end ≡ leg_end a
 unfolding lane_held
@@ -56,7 +56,7 @@ end_kept a b n now before end long held had is over =
           (rw test at is) ∙ had (omega (arith, over, other))
     ]
 
--- all buffers of a lane begin alike
+-- all buffers of a lane begin with the same bytes
 pub begun_head : (a b : Leg) (n : ℕ) (now head : List ℕ) → length a.at ≡ 22 → length b.at ≡ 22 → take 20 a.at ≡ head → take 20 b.at ≡ head
     → now ≡ lane_begun a b n → take 20 now ≡ head
 unfolding lane_begun
@@ -72,7 +72,7 @@ begun_head a b n now head long_a long_b head_a head_b begun =
           rw is (buffer_head b.at b.from (min (n - a.count) b.count) b.value long_b ∙ head_b)
     ]
 
--- one step more
+-- one more step
 pub held_more : (a b : Leg) (n : ℕ) (now hash next : List ℕ) → length a.at ≡ 22 → length b.at ≡ 22 → a.from + a.count ≤ 256 → b.from + b.count ≤ 256
     → now ≡ lane_begun a b n → hash ≡ sha256 now
     → next ≡ (if nat_lt n (a.count + b.count) then take 22 now ++ (slice_index now 22 + 1) % 256 ∷ hash else now)
@@ -110,7 +110,7 @@ held_more a b n now hash next long_a long_b few_a few_b begun hashed goes =
           rw (later, next_is) (buffer_more b.at b.from k b.count b.value now hash next long_b few_b is hashed (rw same at goes))
     ]
 
--- behind the last step
+-- after the last step
 pub second_whole : (a b : Leg) (n : ℕ) (now : List ℕ) → length b.at ≡ 22 → a.count + b.count ≤ n → now ≡ lane_begun a b n → drop 23 now ≡ leg_end b
 unfolding lane_begun
 second_whole a b n now long over begun =
@@ -119,7 +119,7 @@ second_whole a b n now long over begun =
     let is : now ≡ chain_buffer b.at b.from b.count b.value = rw whole at (rw test at begun) in
     rw is (buffer_value b.at b.from b.count b.value long)
 
--- the values of eight chains whose legs are those of these numbers
+-- the values of eight chains whose legs have these numbers
 pub reached_by : (ident : List ℕ) (q : ℕ) (legs : Legs) (eight : Eight) (numbers : List ℕ) (values : List (List ℕ)) → eight.numbers ≡ numbers
     → ((j : ℕ) → j < 8 → leg_of ident q eight j ≡ leg_at ident q legs (slice_index numbers j))
     → ((j : ℕ) → j < 8 → slice_index_or values j [] ≡ leg_end (leg_of ident q eight j))

@@ -1,4 +1,4 @@
--- What is signed in a session is accepted, has its length, and is short.
+-- Signatures in a session are accepted, have their length, and are short.
 use Rattle.std.proofs.Common.{◌≡◌, ℕ, ◌<◌, ◌≤◌, true, length, List, Option, Some, None, arith, refl}
 use Rattle.bar_lms.specs.declared.params.Height.{Height}
 use Rattle.bar_lms.specs.declared.params.Height.TheVariants.{H5}
@@ -23,7 +23,7 @@ unfolding signed_by
 signed_long None p id secret leaf message below = made_length (record { params = p; id = id; secret = secret }) leaf message below
 signed_long (Some height) p id secret leaf message below = hss_long (two_levels height p id secret) leaf message below
 
--- one-time signatures of 4 or 8 bits a digit have few chains
+-- one-time signatures of 4 or 8 bits a digit have at most 67 chains
 few_wide : (ots : Ots) → (ots ≡ W1 → ⊥) → (ots ≡ W2 → ⊥) → chains ots ≤ 67
 few_wide W1 one two = absurd (one refl)
 few_wide W2 one two = absurd (two refl)

@@ -1,18 +1,18 @@
--- What the steps of chains hold after their heads.
+-- The bytes after the heads in the steps of chains.
 use Rattle.std.proofs.Common.{◌≡◌, ℕ, ◌+◌, ◌-◌, ◌%◌, ◌≤◌, ◌++◌, ◌∷◌, Bool, true, false, length, take, drop, List, refl, arith, ap, sym, ◌∙◌, slice_index, if◌then◌else◌}
 use Rattle.std.proofs.Math.Seq.{get_or-append_right, take-append-add}
 use Rattle.std.proofs.lemmas.List.{append_assoc, drop-drop, drop_at}
 use Rattle.std.specs.Int.{w16, w32, to_be_bytes}
 use Rattle.bar_lms.specs.Chains.{place}
 
--- what the first step of a chain hashes
+-- the bytes that the first step of a chain hashes
 pub starts_so : (ident : List ℕ) (q i number : ℕ) (value tail given : List ℕ) → tail ≡ to_be_bytes w16 i ++ number ∷ given → given ≡ value
     → (ident ++ to_be_bytes w32 q) ++ tail ≡ place ident q i ++ number ∷ value
 unfolding place
 starts_so ident q i number value tail given is same =
     rw (is, same) (sym (append_assoc (ident ++ to_be_bytes w32 q) (to_be_bytes w16 i) (number ∷ value)))
 
--- one of two after a head
+-- a choice of two after a head
 pub behind_if : (b : Bool) (head s t : List ℕ) → head ++ (if b then s else t) ≡ (if b then head ++ s else head ++ t)
 behind_if true head s t = refl
 behind_if false head s t = refl

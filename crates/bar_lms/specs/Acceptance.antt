@@ -13,7 +13,7 @@ pub record Accepts (k : Public) (message sig : List ℕ) : Type 0 where
   pub leaf : number_at sig 0 < 2 ^ levels k.params.height
   pub root : candidate k (number_at sig 0) message sig ≡ k.root
 
--- what is tested before any hash: the length, the types and the leaf
+-- what is tested before any hash is computed: the length, the types and the leaf
 unfoldable pub is_well_formed : Public → List ℕ → Bool
 is_well_formed k sig =
     (length sig == signature_len k.params) && ((number_at sig 4 == ots_type k.params.ots)
@@ -24,7 +24,7 @@ is_well_formed k sig =
 unfoldable pub is_accepted : Public → List ℕ → List ℕ → Bool
 is_accepted k message sig = is_well_formed k sig && bytes_eq (candidate k (number_at sig 0) message sig) k.root
 
--- how many hashes acceptance takes: none where the signature isn't well formed
+-- how many hashes acceptance takes: none if the signature isn't well formed
 unfoldable pub steps_taken : Public → List ℕ → List ℕ → ℕ
 steps_taken k message sig = (if is_well_formed k sig then candidate_steps k (number_at sig 0) message sig else 0)
 
@@ -39,7 +39,7 @@ pub record IsKeyOf (p : Params) (bytes : List ℕ) : Type 0 where
 unfoldable pub is_key_of : Params → List ℕ → Bool
 is_key_of p bytes = (length bytes == 56) && bytes_eq (take 8 bytes) (type_bytes p)
 
--- the public key of these types that bytes are
+-- the public key of these types that the bytes encode
 abbrev pub key_at : Params → List ℕ → Public
 key_at p bytes = record { params = p; ident = take 16 (drop 8 bytes); root = drop 24 bytes }
 
@@ -55,6 +55,6 @@ pub record AcceptsUnder (p : Params) (bytes message sig : List ℕ) : Type 0 whe
 unfoldable pub is_accepted_under : Params → List ℕ → List ℕ → List ℕ → Bool
 is_accepted_under p bytes message sig = is_key_of p bytes && is_accepted (key_at p bytes) message sig
 
--- how many hashes acceptance takes: none where the bytes are no public key of these types
+-- how many hashes acceptance takes: none if the bytes are no public key of these types
 unfoldable pub steps_taken_under : Params → List ℕ → List ℕ → List ℕ → ℕ
 steps_taken_under p bytes message sig = (if is_key_of p bytes then steps_taken (key_at p bytes) message sig else 0)

@@ -1,4 +1,4 @@
--- The numbers that tell apart what is hashed for different ends (RFC 8554, 7.1).
+-- The numbers that separate hashes for different purposes (RFC 8554, 7.1).
 use Rattle.std.specs.Prelude.{ℕ}
 
 -- a one-time public key

@@ -53,11 +53,11 @@ hss_leaves top low = leaves_of top * leaves_of low
 
 -- ---- signatures
 
--- what signs a lower tree's public key
+-- the signature of a lower tree's public key
 unfoldable pub upper_signature : HssSecret → ℕ → List ℕ
 upper_signature s j = signature (upper_of s) j (numbered (codes "RND2") s j) (lower_key s j)
 
--- what signs a message under a leaf of a lower tree
+-- the signature of a message under a leaf of a lower tree
 unfoldable pub lower_signature : HssSecret → ℕ → List ℕ → List ℕ
 lower_signature s leaf message =
     signature (lower_of s (leaf / leaves_of s.low)) (leaf % leaves_of s.low) (randomizer_of (upper_secret s) leaf) message
@@ -88,8 +88,8 @@ hss_leaf_in top sig = 32 * (number_at sig 4 % 2 ^ 15) + number_at sig (60 + sign
 
 -- ---- acceptance (RFC 8554, 6.3)
 
--- The public key is one of two levels, the signature has one signed public key; the upper key accepts the lower one, which is of its types
--- and accepts the message.
+-- The public key is one of two levels, and the signature has one signed public key. The upper key accepts the lower one, which is of its
+-- types and accepts the message.
 pub record HssAccepts (top low : Params) (key message sig : List ℕ) : Type 0 where
   pub key_length : length key ≡ 60
   pub length : length sig ≡ hss_signature_len top low
@@ -98,13 +98,13 @@ pub record HssAccepts (top low : Params) (key message sig : List ℕ) : Type 0 w
   pub upper : is_accepted_under top (drop 4 key) (key_part top sig) (upper_part top sig) ≡ true
   pub lower : is_accepted_under low (key_part top sig) message (lower_part top sig) ≡ true
 
--- Both parts of a signature name a leaf of their trees, of which a lower one has 32, and together the leaf that the signature names.
+-- Both parts of a signature name a leaf of their trees; a lower tree has 32 leaves. Together they give the leaf that the signature names.
 pub record NamesItsLeaves (top : Params) (sig : List ℕ) : Type 0 where
   pub upper : number_at sig 4 < leaves_of top
   pub lower : number_at sig (60 + signature_len top) < 32
   pub both : hss_leaf_in top sig ≡ 32 * number_at sig 4 + number_at sig (60 + signature_len top)
 
--- what is tested before any hash
+-- what is tested before any hash is computed
 unfoldable pub is_hss_formed : Params → Params → List ℕ → List ℕ → Bool
 is_hss_formed top low key sig =
     (length key == 60) && ((length sig == hss_signature_len top low) && ((number_at key 0 == 2) && (number_at sig 0 == 1)))
@@ -115,13 +115,13 @@ is_hss_accepted top low key message sig =
     is_hss_formed top low key sig && (is_accepted_under top (drop 4 key) (key_part top sig) (upper_part top sig)
     && is_accepted_under low (key_part top sig) message (lower_part top sig))
 
--- how many hashes it takes: none where the parts don't fit, none for the message where the upper key doesn't accept the lower one
+-- how many hashes it takes: none if the parts don't fit, and none for the message if the upper key doesn't accept the lower one
 unfoldable pub hss_steps_taken : Params → Params → List ℕ → List ℕ → List ℕ → ℕ
 hss_steps_taken top low key message sig =
     (if is_hss_formed top low key sig then steps_taken_under top (drop 4 key) (key_part top sig) (upper_part top sig)
     + (if is_accepted_under top (drop 4 key) (key_part top sig) (upper_part top sig)
     then steps_taken_under low (key_part top sig) message (lower_part top sig) else 0) else 0)
 
--- the most that it takes
+-- the most hashes that it takes
 abbrev pub hss_most_steps : Params → Params → ℕ
 hss_most_steps top low = most_steps top + most_steps low

@@ -1,13 +1,11 @@
 pub mod Params
 pub mod Domains
 pub mod Chains
-pub mod Lanes
-pub mod Order
+pub mod Code
 pub mod Tree
 pub mod Signature
 pub mod Acceptance
 pub mod Secret
-pub mod Remembered
 pub mod Hss
 pub mod Schemes
 pub use Rattle.sha2.specs.Sha256

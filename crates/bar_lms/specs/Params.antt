@@ -52,7 +52,7 @@ last ots = 2 ^ digit_bits ots - 1
 abbrev pub signature_len : Params → ℕ
 signature_len p = 12 + 32 * (chains p.ots + 1) + 32 * levels p.height
 
--- the most hashes that acceptance takes: every chain whole, the message, the one-time key, the leaf and the way up
+-- the most hashes that acceptance takes: all steps of all chains, the message, the one-time key, the leaf and the path to the root
 abbrev pub most_steps : Params → ℕ
 most_steps p = chains p.ots * last p.ots + levels p.height + 3
 

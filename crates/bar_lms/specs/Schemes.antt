@@ -1,4 +1,4 @@
--- The signatures of a session: of one level (RFC 8554, 5), or of two (6), where there is an upper tree.
+-- The signatures of a session: of one level (RFC 8554, 5), or of two (6) if there is an upper tree.
 use Rattle.std.specs.Prelude.{ℕ, List, Bool, Option, Some, None}
 use Rattle.bar_lms.specs.declared.params.Height.{Height}
 use Rattle.bar_lms.specs.declared.params.Params.{Params}
@@ -8,7 +8,7 @@ use Rattle.bar_lms.specs.Secret.{public_key, signed}
 use Rattle.bar_lms.specs.Signature.{number_at}
 use Rattle.bar_lms.specs.Hss.{HssSecret, leaves_of, hss_leaf_in, hss_leaves, hss_public_key, hss_signed, hss_signature_len, is_hss_accepted, hss_most_steps}
 
--- the types of an upper tree of this height over trees of these types: it has the same one-time signatures
+-- the types of an upper tree of this height over trees of these types, with the same one-time signatures
 abbrev pub upper_types : Height → Params → Params
 upper_types height low = record { height = height; ots = low.ots }
 

@@ -1,4 +1,4 @@
--- What a secret key comes from.
+-- Secrets, from which secret keys are derived, and their public keys and signatures.
 use Rattle.std.specs.Prelude.{ℕ, List, ◌++◌, take, codes}
 use Rattle.std.specs.Int.{w32, to_be_bytes}
 use Rattle.bar_bytes.specs.Tag.{tagged}

@@ -5,7 +5,7 @@ ghost use Rattle.std.specs.Int.{w16, w32, to_be_bytes};
 ghost use Rattle.sha2.specs.Hashers.{Holds256};
 ghost use Rattle.bar_lms.specs.Params.{chains, last, levels, signature_len, most_steps};
 ghost use Rattle.bar_lms.specs.Chains.{joined, steps_left, message_hash, one_time_key};
-ghost use Rattle.bar_lms.specs.Order.{longest_by_eights};
+ghost use Rattle.bar_lms.specs.Code.Order.{longest_by_eights};
 ghost use Rattle.bar_lms.specs.Tree.{leaf_node, parent, climb};
 ghost use Rattle.bar_lms.specs.Signature.{hash_at, number_at, end_at, candidate, candidate_steps};
 ghost use Rattle.bar_lms.specs.Acceptance.{Accepts, is_well_formed, is_accepted, steps_taken};
@@ -20,7 +20,7 @@ use bar_bytes::Steps;
 use sha2::{Digest, Sha256};
 use std::sync::ledger::Ledger;
 
-// Counts a hash and begins it as each but a chain's begins: with the key's name, the number of a leaf or node, and the kind.
+// Counts a hash and begins it as all but those of chains begin: with the key's name, the number of a leaf or node, and the kind.
 pub(crate) fn head<L: Ledger>(
     ident: &[u8; 16],
     number: u32,
@@ -96,7 +96,7 @@ pub(crate) fn leaf_node<L: Ledger>(
     hasher.finalize()
 }
 
-// The node at the top, from a leaf and the siblings on the way.
+// The root, from a leaf and the siblings on its path.
 fn top<L: Ledger>(
     ident: &[u8; 16],
     q: u32,
@@ -136,7 +136,7 @@ fn hash_copy(row: &[u8], i: usize) -> [u8; 32]
     hash
 }
 
-// Writes the ends of the chains, from the values in a signature on.
+// Writes the ends of the chains, starting from the values in a signature.
 fn put_ends<L: Ledger>(
     ident: &[u8; 16],
     q: u32,
@@ -174,7 +174,7 @@ fn add_row(hasher: &mut Sha256, row: &Row, n: usize)
     }
 }
 
-// The one-time key that a signature's values lead to.
+// The one-time key that is computed from a signature's values.
 fn key_of_ends<L: Ledger>(
     ident: &[u8; 16],
     q: u32,
@@ -219,7 +219,7 @@ pub(crate) fn message_hash<L: Ledger>(
     hasher.finalize()
 }
 
-// The root that a signature of leaf q on a message leads to.
+// The root that is computed from a signature of leaf q on a message.
 #[tactic(auto, unfolding(crate::specs::Signature::candidate))]
 fn candidate<L: Ledger>(
     key: &PublicKey,
@@ -247,7 +247,7 @@ fn candidate<L: Ledger>(
     )
 }
 
-// Whether a signature has the length and the types of its key and names a leaf.
+// Whether a signature has the length and the types of the key and names a leaf.
 fn is_well_formed(key: &PublicKey, sig: &[u8]) -> bool
     ensures { result ≡ is_well_formed key.now sig.now }
 {

@@ -8,7 +8,7 @@ use crate::private::Private;
 use bar_bytes::Room;
 use std::alloc::{AllocError, Global};
 
-/// The chain values of the signature of a hash under a leaf of a key, where some are kept.
+/// The chain values of the signature of a hash under a leaf of a key, if any are kept.
 #[derive(Drop)]
 pub(crate) struct ChainValues {
     key: Private,
@@ -18,7 +18,7 @@ pub(crate) struct ChainValues {
 }
 
 impl ChainValues {
-    /// Room for the values of keys of these one-time signatures, with none kept.
+    /// Room for the chain values of a key with these one-time signatures; none are kept yet.
     pub(crate) fn make(alloc: Global, ots: Ots) -> Result<ChainValues, AllocError>
         ensures { IfOk result (λ v. v.values ≡ record { size = 32 * chains ots; kept = None }) }
     {
@@ -39,7 +39,7 @@ impl ChainValues {
         })
     }
 
-    /// The values, where those are kept that are of this key, this leaf and this hash.
+    /// The values, if those that are kept are of this key, this leaf and this hash.
     pub(crate) fn get(&self, key: &Private, leaf: u32, hash: &[u8; 32]) -> Option<&[u8]>
         ensures { IfSome result (λ values. (self.now.key ≡ key.now) × (self.now.leaf ≡ leaf)
             × (self.now.hash ≡ hash.now) × (self.now.values.kept ≡ Some values.now)) }

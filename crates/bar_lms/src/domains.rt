@@ -1,4 +1,4 @@
-//! The numbers that tell apart what is hashed for different ends (RFC 8554, 7.1).
+//! The numbers that separate hashes for different purposes (RFC 8554, 7.1).
 
 /// A one-time public key.
 pub(crate) const D_PBLC: u16 = 0x8080;

@@ -3,7 +3,7 @@
 ghost use Rattle.std.specs.Prelude.{◌≡◌, ℕ, ◌+◌, ◌*◌, ◌≤◌, ◌<◌, ◌++◌, ◌∷◌, [], List, length, slice_index, slice_index_or};
 ghost use Rattle.std.specs.Int.{w16, w32, to_be_bytes};
 ghost use Rattle.bar_lms.specs.Chains.{chain, most_of, place};
-ghost use Rattle.bar_lms.specs.Lanes.{leg_of, leg_end, lane_steps};
+ghost use Rattle.bar_lms.specs.Code.Lanes.{AreHeadsOf, leg_of, leg_end, lane_steps};
 
 use crate::bytes::put;
 use crate::legs::Eight;
@@ -12,7 +12,7 @@ use bar_lanes::{Digests, Heads, Tails, Words};
 use std::simd::u32x8;
 use std::sync::ledger::Ledger;
 
-// What each step of leaf q begins with.
+// The bytes that each step of leaf q begins with.
 fn head_of(ident: &[u8; 16], q: u32) -> [u8; 20]
     ensures { result ≡ ident.now ++ to_be_bytes w32 q }
 {
@@ -22,7 +22,7 @@ fn head_of(ident: &[u8; 16], q: u32) -> [u8; 20]
     bytes
 }
 
-/// What each step of eight leaves begins with.
+/// The bytes that each step of eight leaves begins with.
 pub(crate) fn heads_of(ident: &[u8; 16], leaves: &[u32; 8]) -> Heads
     ensures { (j : ℕ) → j < 8 → slice_index_or result j [] ≡ ident.now ++ to_be_bytes w32 (slice_index leaves.now j) }
 {
@@ -42,7 +42,7 @@ fn place_at(i: u16, number: u8) -> [u8; 3]
     [high, low, number]
 }
 
-// What the steps of eight chains have after their heads, each before a step of its own.
+// The bytes after the heads of the steps of eight chains, with the next step's number in each lane.
 fn tails_of(numbers: &[u16; 8], from: &[u8; 8], values: &Digests) -> Tails
     ensures held { (j : ℕ) → j < 8 → slice_index_or result j []
         ≡ to_be_bytes w16 (slice_index numbers.now j) ++ slice_index from.now j ∷ slice_index_or values.now j [] }
@@ -78,12 +78,12 @@ fn most(numbers: &[u32; 8]) -> u32
     most
 }
 
-/// Takes two chains of leaf q in each lane, one after the other. Writes the values of the first of each, and answers those of the second.
+/// Computes two chains of a leaf with these heads in each lane, one after the other. Writes the values of the first of each, and returns
+/// those of the second.
 ///
-/// A lane at its end keeps its value while the others go on, so eight steps are counted for each of the lane that takes the most.
+/// A lane that is done keeps its value while the others go on, so eight steps are counted for each step of the longest lane.
 pub(crate) fn sixteen_chains<L: Ledger>(
-    ident: &[u8; 16],
-    q: u32,
+    heads: &Heads,
     first: &Eight,
     second: &Eight,
     ends: &mut [[u8; 32]; 8],
@@ -91,18 +91,19 @@ pub(crate) fn sixteen_chains<L: Ledger>(
 ) -> [[u8; 32]; 8]
     requires first { (j : ℕ) → j < 8 → slice_index first.now.from j + slice_index first.now.counts j ≤ 256 }
     requires second { (j : ℕ) → j < 8 → slice_index second.now.from j + slice_index second.now.counts j ≤ 256 }
-    ensures first { (j : ℕ) → j < 8 → slice_index_or ends.new j [] ≡ leg_end (leg_of ident.now q first.now j) }
-    ensures second { (j : ℕ) → j < 8 → slice_index_or result j [] ≡ leg_end (leg_of ident.now q second.now j) }
+    ensures first { (ident : List ℕ) (q j : ℕ) → AreHeadsOf ident q heads.now → j < 8
+        → slice_index_or ends.new j [] ≡ leg_end (leg_of ident q first.now j) }
+    ensures second { (ident : List ℕ) (q j : ℕ) → AreHeadsOf ident q heads.now → j < 8
+        → slice_index_or result j [] ≡ leg_end (leg_of ident q second.now j) }
     ensures cost { steps.new ≡ steps.old + 8 * most_of (lane_steps first.now second.now) 0 8 }
 {
-    let heads = heads_of(ident, &[q; 8]);
     let mut tails = tails_of(&first.numbers, &first.from, &Digests::new(&first.starts));
     let seconds = tails_of(&second.numbers, &second.from, &Digests::new(&second.starts));
     let counts = lane_steps(&first.counts, &second.counts);
     let most = most(&counts);
     let firsts = u32x8::from_array(lane_steps(&first.counts, &[0; 8]));
     let counts = u32x8::from_array(counts);
-    // Each lane takes the value behind its first chain in the course of the steps.
+    // Each lane takes the value at the end of its first chain in the course of the steps.
     let mut kept = tails.values();
     let mut words = [u32x8::splat(0); 64];
     'steps: for n in 0..most {
@@ -118,8 +119,8 @@ pub(crate) fn sixteen_chains<L: Ledger>(
     tails.values().to_bytes()
 }
 
-/// The values of chain i of eight leaves with these heads, after so many steps from a number on. The words of their schedules are written anew,
-/// so that a key needs room for them once.
+/// The values of chain i of eight leaves with these heads, after some steps from a number on. It overwrites the words of their schedules,
+/// so that a key needs only one such array.
 pub(crate) fn chain_of_leaves<L: Ledger>(
     heads: &Heads,
     i: u16,
@@ -144,17 +145,17 @@ pub(crate) fn chain_of_leaves<L: Ledger>(
     tails.values()
 }
 
-/// The values of the chains with these numbers of leaf q, the one with `numbers[j]` after `counts[j]` steps from number `from[j]` on.
+/// The values of eight chains of a leaf with these heads; the chain `numbers[j]` takes `counts[j]` steps from number `from[j]` on.
 ///
-/// Eight steps are counted for each of the longest.
+/// Eight steps are counted for each step of the longest chain.
 pub(crate) fn eight_chains<L: Ledger>(
-    ident: &[u8; 16],
-    q: u32,
+    heads: &Heads,
     first: &Eight,
     steps: &mut Steps<L>,
 ) -> [[u8; 32]; 8]
     requires { (j : ℕ) → j < 8 → slice_index first.now.from j + slice_index first.now.counts j ≤ 256 }
-    ensures value { (j : ℕ) → j < 8 → slice_index_or result j [] ≡ leg_end (leg_of ident.now q first.now j) }
+    ensures value { (ident : List ℕ) (q j : ℕ) → AreHeadsOf ident q heads.now → j < 8
+        → slice_index_or result j [] ≡ leg_end (leg_of ident q first.now j) }
     ensures cost { steps.new ≡ steps.old + 8 * most_of (slice_index first.now.counts) 0 8 }
 {
     let none = Eight {
@@ -164,6 +165,6 @@ pub(crate) fn eight_chains<L: Ledger>(
         counts: [0; 8],
     };
     let mut ends = [[0u8; 32]; 8];
-    sixteen_chains(ident, q, first, &none, &mut ends, steps);
+    sixteen_chains(heads, first, &none, &mut ends, steps);
     ends
 }

@@ -15,7 +15,7 @@ pub struct PublicKey {
     pub(crate) root: [u8; 32],
 }
 
-/// Why bytes are no public key: fewer than 56 bytes, more, or numbers that name no types.
+/// Why bytes aren't a public key: fewer than 56 bytes, more, or numbers that name no types.
 #[derive(Clone, Copy, Debug, PartialEq, Eq)]
 pub enum KeyFault {
     Short,
@@ -35,18 +35,18 @@ impl PublicKey {
     ghost use Rattle.bar_lms.specs.Signature.{Public, IsPublic, key_bytes, number_at};
     ghost use Rattle.bar_lms.specs.Acceptance.{is_key_of, key_at};
 
-    /// The key that these 56 bytes spell.
+    /// The key that these 56 bytes encode.
     pub fn read(bytes: &[u8]) -> Result<PublicKey, KeyFault>
         ensures short { (result ≡ Err KeyFault.Short) ↔ (length bytes.now < 56) }
         ensures long { (result ≡ Err KeyFault.Long) ↔ (56 < length bytes.now) }
         ensures bad_type { (result ≡ Err KeyFault.BadType) ↔
             ((length bytes.now ≡ 56) × NameNoTypes (number_at bytes.now 0) (number_at bytes.now 4)) }
 
-        // What is read is spelled by the bytes, and what they spell is read.
+        // The bytes encode the key that is read, and a key that they encode is read.
         ensures found { IfOk result (λ k. bytes.now ≡ key_bytes k) }
         ensures only { (k : Public) → IsPublic k → bytes.now ≡ key_bytes k → result ≡ Ok k }
 
-        // The same by the test of a key of given types.
+        // The same by the test for a key of given types.
         ensures types { IfOk result (λ k. is_key_of k.params bytes.now ≡ true) }
         ensures of_types { (p : Params) → is_key_of p bytes.now ≡ true → result ≡ Ok (key_at p bytes.now) }
     {

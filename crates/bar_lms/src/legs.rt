@@ -1,16 +1,15 @@
-//! What is taken of each chain of a leaf.
+//! The legs of the chains of a leaf: the steps that are to be computed of each.
 
 ghost use Rattle.std.specs.Prelude.{◌≡◌, ℕ, ◌<◌, [], List, slice_index, slice_index_or};
-ghost use Rattle.bar_lms.specs.Lanes.{leg_of, leg_at};
+ghost use Rattle.bar_lms.specs.Code.Lanes.{leg_of, leg_at};
 
-/// A hash of each chain, by its number. There is room for as many chains as a key has at most.
+/// A hash of each chain, by its number. There is room for the most chains that a key has.
 pub(crate) type Row = [[u8; 32]; 265];
 
 /// A byte of each chain, by its number.
 pub(crate) type Bytes = [u8; 265];
 
-/// What is taken of each chain: from the value at its place of `starts` on, as many steps as `counts` says there, the first of which has
-/// the number that `from` says there.
+/// The leg of each chain: its first value is in `starts`, the number of its first step in `from`, and how many steps it has in `counts`.
 #[derive(Drop)]
 pub(crate) struct Legs {
     pub starts: Row,
@@ -18,7 +17,7 @@ pub(crate) struct Legs {
     pub counts: Bytes,
 }
 
-/// What is taken of eight chains with these numbers, each as in `Legs`.
+/// The legs of eight chains with these numbers, as in `Legs`.
 #[derive(Drop)]
 pub(crate) struct Eight {
     pub numbers: [u16; 8],
@@ -51,7 +50,7 @@ fn eight_bytes(all: &Bytes, numbers: &[u16; 8]) -> [u8; 8]
     bytes
 }
 
-/// What is taken of the chains with eight numbers.
+/// The legs of the chains with eight numbers.
 pub(crate) fn eight_legs(legs: &Legs, numbers: [u16; 8]) -> Eight
     requires { (j : ℕ) → j < 8 → slice_index numbers j < 265 }
     ensures numbers { result.numbers ≡ numbers }

@@ -1,9 +1,9 @@
-//! A place of what is remembered.
+//! A place among remembered chain values.
 
 use crate::remembered::Remembered;
 use std::cell::RefCell;
 
-/// The place of a number among those that are remembered.
+/// The place that a number selects among those that are remembered.
 #[derive(Clone, Copy)]
 pub struct Place<'a> {
     pub remembered: &'a RefCell<Remembered>,

@@ -1,8 +1,8 @@
-//! What is remembered of signatures.
+//! The chain values of signatures that are remembered.
 
 ghost use Rattle.std.specs.Prelude.{◌≡◌, ◌+◌, ◌*◌, ◌≤◌, ◌++◌, length, take, drop, IfOk, IfSome};
 ghost use Rattle.bar_lms.specs.Params.{chains};
-ghost use Rattle.bar_lms.specs.Remembered.{chain_values};
+ghost use Rattle.bar_lms.specs.Code.Remembered.{chain_values};
 
 use crate::bytes::put;
 use crate::chain_values::ChainValues;
@@ -14,8 +14,8 @@ use std::alloc::{AllocError, Global};
 use std::marker::Model;
 use std::sync::ledger::Ledger;
 
-/// Places for the chain values of signatures, under keys of the same one-time signatures. There are so many in turn: a number stands for the
-/// place that it is modulo their count.
+/// Places for the chain values of signatures, under keys with the same one-time signatures. A number selects the place with this number
+/// modulo the count of places.
 #[derive(Drop)]
 pub struct Remembered {
     ots: Ots,
@@ -25,7 +25,7 @@ pub struct Remembered {
 impl Model for Remembered {
     ghost use Rattle.std.specs.Prelude.{All};
     ghost use Rattle.bar_lms.specs.declared.params.Ots.{Ots};
-    ghost use Rattle.bar_lms.specs.Remembered.{AreValuesOf};
+    ghost use Rattle.bar_lms.specs.Code.Remembered.{AreValuesOf};
 
     ghost Value = { Ots };
 
@@ -35,7 +35,7 @@ impl Model for Remembered {
 }
 
 impl Remembered {
-    /// So many places, in which nothing is kept. All memory is taken here.
+    /// A number of places, in which nothing is kept. All memory is allocated here.
     pub fn make(alloc: Global, ots: Ots, places: u16) -> Result<Remembered, AllocError>
         ensures { IfOk result (λ r. r ≡ ots) }
     {
@@ -47,7 +47,7 @@ impl Remembered {
         Ok(Remembered { ots, places: all })
     }
 
-    // The chain values of a leaf and a hash under a key, where the place of a number keeps those.
+    // The chain values of a leaf and a hash under a key, if the place of a number keeps them.
     fn get(&self, number: u32, key: &Private, q: u32, hash: &[u8; 32]) -> Option<&[u8]>
         ensures { IfSome result (λ values. values.now ≡ chain_values key.now q hash.now) }
     {
@@ -55,7 +55,7 @@ impl Remembered {
         self.places[place].get(key, q, hash)
     }
 
-    // Keeps the chain values of a leaf and a hash at the place of a number, where there is one and the key is of these one-time signatures.
+    // Keeps the chain values of a leaf and a hash at the place of a number, if there is one and the key has these one-time signatures.
     fn keep(&mut self, number: u32, key: &Private, q: u32, hash: &[u8; 32], values: &[u8])
         requires { values.now ≡ chain_values key.now q hash.now }
         ensures { self.new ≡ self.old }
@@ -68,7 +68,8 @@ impl Remembered {
         }
     }
 
-    /// Writes the values of the chains, from byte 40 on: those that the place of a number keeps, or else computed ones, which it keeps then.
+    /// Writes the values of the chains, from byte 40 on: those that the place of a number keeps, or else computed ones, which it then
+    /// keeps.
     pub(crate) fn put_values<L: Ledger>(
         &mut self,
         number: u32,

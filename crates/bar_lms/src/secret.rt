@@ -18,7 +18,7 @@ use std::cell::RefCell;
 use std::marker::{Brand, Model};
 use std::sync::ledger::Blank;
 
-/// A secret key, with its tree and what it remembers of its signatures.
+/// A secret key, with its tree and the chain values that it remembers of its signatures.
 #[derive(Drop)]
 pub struct SecretKey {
     key: Private,
@@ -77,9 +77,9 @@ impl SecretKey {
         })
     }
 
-    /// Remembers the chain values of the last signature of each of so many leaves that follow one another, in place of what was remembered.
+    /// Remembers the chain values of the last signature of each of several consecutive leaves, in place of what was remembered.
     ///
-    /// The same message under the same leaf is then signed again without a step in a chain. All memory is taken here.
+    /// The same message under the same leaf is then signed again without a step of a chain. All memory is allocated here.
     pub fn remember(&mut self, alloc: Global, leaves: u16) -> Result<(), AllocError>
         ensures { self.new ≡ self.old }
     {
@@ -109,7 +109,7 @@ impl SecretKey {
         out
     }
 
-    /// Writes the signature of a message under a leaf (RFC 8554, 5.4.1), and answers its length.
+    /// Writes the signature of a message under a leaf (RFC 8554, 5.4.1), and returns its length.
     ///
     /// The randomizer is a tagged hash of the leaf and the secret, so the same message under the same leaf gives the same bytes.
     #[tactic(auto, unfolding(crate::specs::Secret::signed))]

@@ -4,11 +4,11 @@ ghost use Rattle.std.specs.Prelude.{◌≡◌, ℕ, ◌+◌, ◌*◌, ◌^◌, �
 ghost use Rattle.std.specs.Int.{w32, to_be_bytes};
 ghost use Rattle.bar_lms.specs.Params.{chains, levels, signature_len};
 ghost use Rattle.bar_lms.specs.Chains.{joined};
-ghost use Rattle.bar_lms.specs.Order.{signed_steps};
+ghost use Rattle.bar_lms.specs.Code.Order.{signed_steps};
 ghost use Rattle.bar_lms.specs.Tree.{HoldsTree, value, sibling};
 ghost use Rattle.bar_lms.specs.Signature.{signed_value, sibling_at, signature, public_of};
 ghost use Rattle.bar_lms.specs.Acceptance.{Accepts};
-ghost use Rattle.bar_lms.specs.Remembered.{chain_values};
+ghost use Rattle.bar_lms.specs.Code.Remembered.{chain_values};
 
 use crate::acceptance::message_hash;
 use crate::all_chains::all_chains;
@@ -56,7 +56,7 @@ fn put_starts<L: Ledger>(key: &Private, q: u32, starts: &mut Row, steps: &mut St
     );
 }
 
-// Writes the values of the chains in a signature: each from its start on, so many steps as its digit says.
+// Writes the values of the chains in a signature: each after as many steps from its start as its digit says.
 fn take_digits<L: Ledger>(
     key: &Private,
     q: u32,
@@ -104,7 +104,7 @@ pub(crate) fn put_values<L: Ledger>(
     put_row(out, &values, key.params.ots.chains());
 }
 
-// Writes the same by what is remembered, where that isn't in use.
+// Writes the same through the remembered values, if there is a place and they aren't in use.
 fn put_values_by<L: Ledger>(
     key: &Private,
     place: Option<Place<'_>>,
@@ -135,7 +135,7 @@ fn sibling(r: usize) -> usize
     if r % 2 == 0 { r + 1 } else { r - 1 }
 }
 
-// Writes the siblings on the way to the root, from a place on.
+// Writes the siblings on the path to the root, from offset `at` on.
 fn put_path(key: &Private, nodes: &[[u8; 32]], q: u32, out: &mut [u8], at: usize)
     requires tree { HoldsTree key.now nodes.now }
     requires places { length nodes.now ≡ 2 * 2 ^ levels key.now.params.height }
@@ -153,7 +153,7 @@ fn put_path(key: &Private, nodes: &[[u8; 32]], q: u32, out: &mut [u8], at: usize
     }
 }
 
-// Writes a hash at a place.
+// Writes a hash at offset `at`.
 fn put_hash(out: &mut [u8], at: usize, hash: &[u8; 32])
     requires { at + 32 ≤ length out.old }
     ensures grown { take (at + 32) out.new ≡ take at out.old ++ hash.now }
@@ -163,7 +163,7 @@ fn put_hash(out: &mut [u8], at: usize, hash: &[u8; 32])
     put(out, at, hash);
 }
 
-// Writes a number at a place.
+// Writes a number at offset `at`.
 fn put_number(out: &mut [u8], at: usize, number: u32)
     requires { at + 4 ≤ length out.old }
     ensures grown { take (at + 4) out.new ≡ take at out.old ++ to_be_bytes w32 number }
@@ -172,8 +172,9 @@ fn put_number(out: &mut [u8], at: usize, number: u32)
     put(out, at, &number.to_be_bytes());
 }
 
-/// Writes the signature of a message under leaf q with a randomizer (RFC 8554, 5.4.1), and answers its length. It takes the chain values from
-/// a place, if there is one that keeps them, or else leaves them there.
+/// Writes the signature of a message under leaf q with a randomizer (RFC 8554, 5.4.1), and returns its length. If there is a place that
+/// keeps the chain values, it takes them from there. Otherwise it computes them, and keeps them in the place if there is one that isn't in
+/// use.
 ///
 /// `nodes` is the tree of the key, as `fill` writes it.
 pub(crate) fn sign_from<L: Ledger>(

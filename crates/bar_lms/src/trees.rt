@@ -15,7 +15,7 @@ use crate::tree::fill;
 use std::marker::Brand;
 use std::sync::ledger::Blank;
 
-// What a private key of these parts is made of.
+// The private key with these parts.
 fn private_by(params: Params, seed: &[u8; 32], ident: &[u8; 16]) -> Private
     ensures value { result ≡ private_by params seed.now ident.now }
     ensures name { length result.ident ≡ 16 }
@@ -27,8 +27,8 @@ fn private_by(params: Params, seed: &[u8; 32], ident: &[u8; 16]) -> Private
     }
 }
 
-/// Writes the nodes of a tree (RFC 8554, 5.3) at the places of their numbers: the root at 1, the leaves from 2 to the height on. The place
-/// 0 is left as it was.
+/// Writes the nodes of a tree (RFC 8554, 5.3) at the places of their numbers: the root at 1, the leaves from 2 to the power of the height
+/// on. Place 0 is unchanged.
 pub fn fill_tree(params: Params, seed: &[u8; 32], ident: &[u8; 16], nodes: &mut [[u8; 32]])
     requires { length nodes.old ≡ 2 * 2 ^ levels params.height }
     ensures held { HoldsTree (private_by params seed.now ident.now) nodes.new }
@@ -51,7 +51,7 @@ pub fn public_key(params: Params, ident: &[u8; 16], root: &[u8; 32]) -> [u8; 56]
     out
 }
 
-/// Writes the signature of a message under a leaf with a randomizer (RFC 8554, 5.4.1), and answers its length. It is accepted under the
+/// Writes the signature of a message under a leaf with a randomizer (RFC 8554, 5.4.1), and returns its length. It is accepted under the
 /// public key of the tree.
 ///
 /// `nodes` is the tree of the seed and the name, as `fill_tree` writes it.
@@ -81,8 +81,8 @@ pub fn sign_tree(
     )
 }
 
-/// Writes the same signature as `sign_tree`. Where there is a place, it takes the chain values from there if they are of this tree, this leaf
-/// and this message, or else leaves them there.
+/// Writes the same signature as `sign_tree`. If there is a place that keeps the chain values of this tree, this leaf and this message, it
+/// takes them from there. Otherwise it computes them, and keeps them in the place if there is one that isn't in use.
 pub fn sign_tree_at(
     params: Params,
     seed: &[u8; 32],

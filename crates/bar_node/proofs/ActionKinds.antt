@@ -1,4 +1,4 @@
--- What follows of a list of actions where it is known of which kinds they are.
+-- Consequences for a list of actions whose kinds are known.
 use Rattle.std.proofs.Common.{◌≡◌, ◌||◌, ℕ, ◌+◌, List, [], ◌∷◌, ◌++◌, None, Some, refl, sym, ap, ◌∙◌, subst, inl, inr, take, length, min, append-nil}
 use Rattle.std.proofs.Math.Seq.{take-append-add}
 use Rattle.std.proofs.Math.Bool.{or-false, or-true}
@@ -12,10 +12,10 @@ use Rattle.bar_outside.proofs.ActionLists.{shown-append}
 use Rattle.bar_outside.proofs.Appends.{take-more}
 use Rattle.bar_findings.proofs.Lists.{all-front, all-rest}
 use Rattle.bar_laws.proofs.Logs.{all-both}
-use Rattle.bar_node.specs.Effects.{received_in}
+use Rattle.bar_node.specs.Code.Effects.{received_in}
 use Rattle.bar_node.specs.Runs.{has_end}
 
--- The action writes a file of such a name, makes such a call of the link, or prints, where that may be.
+-- The action reads, writes a file with a name in P, makes a call of the link in C, or prints, if S allows printing.
 abbrev pub IsAmong : (List ℕ → Type 0) → (LinkCall → Type 0) → Type 0 → Action → Type 0
 IsAmong P C S (read path) = Unit {0}
 IsAmong P C S (create path) = P path
@@ -36,11 +36,11 @@ IsUnbinding (bind to) = ⊥
 IsUnbinding (receive came) = Unit {0}
 IsUnbinding (send to bytes) = Unit {0}
 
--- each action is of such a kind
+-- each action is of one of these kinds
 abbrev pub AreAmong : (List ℕ → Type 0) → (LinkCall → Type 0) → Type 0 → List Action → Type 0
 AreAmong P C S acts = AllByRecursion (IsAmong P C S) acts
 
--- ---- a part of an action is of its kind
+-- ---- a partial action has the kind of the whole
 
 module _ (P : List ℕ → Type 0) (C : LinkCall → Type 0) (S : Type 0) where
   among-part : (a b : Action) → IsPartOf a b → IsAmong P C S b → IsAmong P C S a
@@ -72,7 +72,7 @@ module _ (P : List ℕ → Type 0) (C : LinkCall → Type 0) (S : Type 0) where
   among-next (a ∷ []) (b ∷ others) h k = (among-part a b h k.0, tt)
   among-next (a ∷ b ∷ more) rest h k = absurd h
 
-  -- what was done of them is of their kinds
+  -- what was done of a plan has the plan's kinds
   pub among-begun : (plan done : List Action) → Begun plan done → AreAmong P C S plan → AreAmong P C S done
   among-begun plan done b k =
       let all = subst (AreAmong P C S) b.plan_is k in
@@ -80,7 +80,7 @@ module _ (P : List ℕ → Type 0) (C : LinkCall → Type 0) (S : Type 0) where
       (all-both (IsAmong P C S) b.front b.part (all-front (IsAmong P C S) b.front b.rest all)
       (among-next b.part b.rest b.part_is (all-rest (IsAmong P C S) b.front b.rest all)))
 
-  -- they touch only files of such names
+  -- they touch only files with names in P
   pub among-touches : (acts : List Action) (path : List ℕ) → AreAmong P C S acts → Touches acts path → P path
   among-touches [] path k t = absurd t
   among-touches (create name ∷ others) path k (inl e) = subst P (sym e) k.0
@@ -91,7 +91,7 @@ module _ (P : List ℕ → Type 0) (C : LinkCall → Type 0) (S : Type 0) where
   among-touches (show bytes ∷ others) path k t = among-touches others path k.1 t
   among-touches (link call ∷ others) path k t = among-touches others path k.1 t
 
--- nothing is printed where nothing may be
+-- if no action may print, nothing is printed
 pub among-silent : (P : List ℕ → Type 0) (C : LinkCall → Type 0) (acts : List Action) → AreAmong P C ⊥ acts → shown acts ≡ []
 among-silent P C [] k = refl
 among-silent P C (read name ∷ others) k = among-silent P C others k.1
@@ -110,7 +110,7 @@ among-unlinked P S (append name bytes ∷ others) t k = among-unlinked P S other
 among-unlinked P S (show bytes ∷ others) t k = among-unlinked P S others t k.1
 among-unlinked P S (link call ∷ others) t k = absurd k.0
 
--- and nothing is received
+-- nothing is received
 pub among-unreceived : (P : List ℕ → Type 0) (S : Type 0) (acts : List Action) → AreAmong P NoCall S acts → received_in acts ≡ []
 among-unreceived P S [] k = refl
 among-unreceived P S (read name ∷ others) k = among-unreceived P S others k.1
@@ -119,7 +119,7 @@ among-unreceived P S (append name bytes ∷ others) k = among-unreceived P S oth
 among-unreceived P S (show bytes ∷ others) k = among-unreceived P S others k.1
 among-unreceived P S (link call ∷ others) k = absurd k.0
 
--- a link that isn't bound anew tells its end where it did, or where it is received
+-- a link that isn't bound again reports its end if it did before, or if the end is received
 pub among-ended : (P : List ℕ → Type 0) (S : Type 0) (acts : List Action) (t : Traffic) → AreAmong P IsUnbinding S acts →
     (traffic_after acts t).ended ≡ (t.ended || has_end (received_in acts))
 among-ended P S [] t k = sym (or-false t.ended)
@@ -134,7 +134,7 @@ among-ended P S (link (receive (Some Tick)) ∷ others) t k = among-ended P S ot
 among-ended P S (link (receive (Some (Datagram bytes))) ∷ others) t k = among-ended P S others _ k.1
 among-ended P S (link (receive (Some End)) ∷ others) t k = among-ended P S others _ k.1 ∙ sym (or-true t.ended)
 
--- the link stays bound as it is
+-- the binding of the link is unchanged
 pub among-bound : (P : List ℕ → Type 0) (S : Type 0) (acts : List Action) (t : Traffic) → AreAmong P IsUnbinding S acts →
     (traffic_after acts t).bound ≡ t.bound
 among-bound P S [] t k = refl
@@ -159,7 +159,7 @@ among-unwritten C S (link call ∷ others) content k = among-unwritten C S other
 among-unwritten C S (create name ∷ others) content k = absurd k.0
 among-unwritten C S (append name bytes ∷ others) content k = absurd k.0
 
--- ---- what is printed of a plan that was begun is a front of what all of it prints
+-- ---- a plan that was done in part prints a prefix of what the whole plan prints
 
 shown-next : (part rest : List Action) → IsPartOfNext part rest → (k : ℕ) × (shown part ≡ take k (shown rest))
 shown-next [] rest h = (0, refl)

@@ -1,4 +1,4 @@
--- What actions add to a file that none of them makes anew.
+-- What actions append to a file that none of them creates.
 use Rattle.std.proofs.Common.{◌≡◌, ◌≢◌, ℕ, Bool, true, false, cond, List, [], ◌∷◌, ◌++◌, take, drop, refl, sym, ap, ◌∙◌, subst, append-nil, append_assoc, Some}
 use Rattle.std.specs.List.{flat_map}
 use Rattle.std.specs.Str.{bytes_eq}
@@ -9,7 +9,7 @@ use Rattle.bar_outside.specs.Disk.{Content, appended, created}
 use Rattle.bar_outside.specs.Plan.{Action, IsPartOfNext, content_after}
 use Rattle.bar_outside.specs.Plan.Action.{append, create, link, read, show}
 use Rattle.bar_outside.proofs.Contents.{appended-other, appended-same, put_at-other}
-use Rattle.bar_node.specs.Effects.{added_by, added_in, creates}
+use Rattle.bar_node.specs.Code.Effects.{added_by, added_in, creates}
 use Rattle.bar_node.specs.Stops.{IsFront}
 use Rattle.bar_node.proofs.Yields.{cons-nil, front-behind, front-longer, front-none}
 use Rattle.bar_node.proofs.Receiving.{no-link-part}
@@ -17,11 +17,11 @@ use Rattle.bar_node.proofs.Receiving.{no-link-part}
 pub other-name : (path name : List ℕ) → path ≢ name → bytes_eq path name ≡ false
 other-name path name h = false_from_ne_true (bytes_eq path name) (λ e. h ((bytes_eq-Decides path name).0 e))
 
--- a mark where the file of this name is made anew
+-- a mark if the file of this name is created
 abbrev pub made_by : List ℕ → Action → List (Unit {0})
 made_by path a = cond (creates path a) (tt ∷ []) []
 
--- ---- what the file has then
+-- ---- the resulting content of the file
 
 not-made : (path name : List ℕ) (others : List (Unit {0})) (b : Bool) → bytes_eq path name ≡ b → cond b (tt ∷ []) [] ++ others ≡ [] →
     (path ≢ name) × (others ≡ [])
@@ -56,7 +56,7 @@ content-added path held (read name ∷ acts) content none there = content-added 
 content-added path held (show bytes ∷ acts) content none there = content-added path held acts content none there
 content-added path held (link call ∷ acts) content none there = content-added path held acts content none there
 
--- ---- what a part of an action adds or makes is a front of what the whole does
+-- ---- a partial action appends or creates a prefix of what the whole action does
 
 front-take : (b : Bool) (k : ℕ) (bytes : List ℕ) → IsFront (cond b (take k bytes) []) (cond b bytes [])
 front-take true k bytes = record { rest = drop k bytes; is = sym (take-append-drop k bytes) }

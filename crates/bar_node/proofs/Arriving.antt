@@ -1,4 +1,4 @@
--- What is taken, and done, at one arrival behind others.
+-- What is taken and done at one arrival after others.
 use Rattle.std.proofs.Common.{◌≡◌, ℕ, Some, List, [], ◌∷◌, ◌++◌, refl, sym, ap, ◌∙◌, subst, append-nil, append_assoc, Result, Ok}
 use Rattle.bar_wire.specs.Inputs.{Input}
 use Rattle.bar_record.specs.Pacing.{paced_from, ticks_of}
@@ -7,22 +7,22 @@ use Rattle.bar_outside.specs.declared.fault.Fault.{Fault}
 use Rattle.bar_outside.specs.Plan.{Outside}
 use Rattle.bar_outside.specs.Plan.Action.{link}
 use Rattle.bar_outside.specs.Plan.LinkCall.{receive}
-use Rattle.bar_outside.specs.Follows.{Follows}
+use Rattle.bar_outside.specs.Code.Follows.{Follows}
 use Rattle.bar_outside.proofs.Following.{followed}
 use Rattle.bar_core.specs.Rules.{Rules}
-use Rattle.bar_node.specs.Turns.{Layout, turns}
+use Rattle.bar_node.specs.Code.Turns.{Layout, turns}
 use Rattle.bar_node.specs.Runs.{input_of, inputs_of, due_if, run_if, node_from, taken_of}
 use Rattle.bar_node.proofs.TurnLists.{paced-step}
 
 -- ---- arrival by arrival
 
--- all that is taken over some arrivals, behind what was taken before
+-- everything that is taken over some arrivals, after what was taken before
 abbrev pub taken_from : ℕ → List Input → ℕ → List Arrival → List Input
 taken_from last before run [] = before
 taken_from last before run (a ∷ arrivals) =
     taken_from last (before ++ due_if last (ticks_of before) run (input_of a)) (run_if run (input_of a)) arrivals
 
--- how many datagrams then stand in a row
+-- how many datagrams were then taken in a row
 abbrev pub run_from : ℕ → List Arrival → ℕ
 run_from run [] = run
 run_from run (a ∷ arrivals) = run_from (run_if run (input_of a)) arrivals
@@ -64,10 +64,10 @@ taken_from-is last before run (a ∷ given) =
 taken-is : (r : Rules) (given : List Arrival) → taken_from r.last [] 0 given ≡ taken_of r given
 taken-is r given = taken_from-is r.last [] 0 given
 
--- ---- one arrival more
+-- ---- one more arrival
 
 module _ (lay : Layout) (r : Rules) (given : List Arrival) (a : Arrival) where
-  -- what is due then
+  -- what is due at this arrival
   abbrev pub due_next : List Input
   due_next = due_if r.last (ticks_of (taken_of r given)) (run_from 0 given) (input_of a)
 
@@ -84,7 +84,7 @@ module _ (lay : Layout) (r : Rules) (given : List Arrival) (a : Arrival) where
       ∙ ap (λ taken. node_from lay r [] 0 given ++ node_from lay r taken (run_from 0 given) (a ∷ [])) (taken-is r given)
       ∙ ap (λ rest. node_from lay r [] 0 given ++ link (receive (Some a)) ∷ rest) (append-nil (turns lay r (taken_of r given) due_next))
 
-  -- the arrival is received, and then come the turns of what is due
+  -- the arrival is received, and then the turns of what is due are done
   pub arrive : {R S T : Type 0} (old mid late new : Outside) (x : R) (y : S) (q : Result T Fault) →
       Follows (node_from lay r [] 0 given) old mid (Ok x) → Follows (link (receive (Some a)) ∷ []) mid late (Ok y) →
       Follows (turns lay r (taken_of r given) due_next) late new q → Follows (node_from lay r [] 0 (given ++ a ∷ [])) old new q

@@ -1,4 +1,4 @@
--- What comes behind the turns of a run: the recording's end and what was found, or the link that is asked again.
+-- What follows the turns of a run: the recording's end and what was found, or another call of the link.
 use Rattle.std.proofs.Common.{◌≡◌, ℕ, Bool, true, false, cond, List, [], ◌∷◌, ◌++◌, refl, ap, ◌∙◌, append-nil, map, Option, None}
 use Rattle.std.specs.List.{AllByRecursion, flat_map}
 use Rattle.std.proofs.lemmas.Grind.{flat_map-append}
@@ -9,11 +9,11 @@ use Rattle.bar_outside.specs.Plan.Action.{append, create, link}
 use Rattle.bar_outside.specs.Plan.LinkCall.{receive}
 use Rattle.bar_findings.specs.Findings.{Finding, finding_actions, findings_actions}
 use Rattle.bar_core.specs.Rules.{Rules}
-use Rattle.bar_node.specs.Turns.{kept}
+use Rattle.bar_node.specs.Code.Turns.{kept}
 use Rattle.bar_node.specs.Runs.{behind, closing, found_after, is_ended, taken_of}
 
 module _ {X : Type 0} (gives : Action → List X) where
-  -- the writing of a file of this name gives nothing
+  -- creating or appending to a file of this name gives nothing
   abbrev pub GivesNone : List ℕ → Type 0
   GivesNone name = (gives (create name) ≡ []) × ((bytes : List ℕ) → gives (append name bytes) ≡ [])
 
@@ -31,7 +31,7 @@ module _ {X : Type 0} (gives : Action → List X) where
       flat_map-append gives (finding_actions f) (findings_actions fs)
       ∙ ap (λ ys. ys ++ flat_map gives (findings_actions fs)) (finding-none f h.0) ∙ findings-none fs h.1
 
-  -- where that of no finding gives anything, the recording's end alone does
+  -- if writing the findings gives nothing, only the recording's end gives something
   module _ (recording : Option (List ℕ)) (found : List ℕ) (r : Rules) where
     closing-gives : (taken : List Input) → AllByRecursion (λ f. GivesNone f.name) (found_after found r taken) →
         flat_map gives (closing recording found r taken) ≡ flat_map gives (kept recording (0 ∷ []))

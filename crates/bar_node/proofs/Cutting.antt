@@ -1,4 +1,4 @@
--- Where a plan of turns was stopped.
+-- The position at which a plan of turns was stopped.
 use Rattle.std.proofs.Common.{◌≡◌, ◌≤◌, ◌⊎◌, ℕ, ◌+◌, ◌==◌, nat_le, not, Bool, true, false, cond, List, [], ◌∷◌, ◌++◌, length, refl, sym, ap, ◌∙◌, subst, inl, inr, arith, append-nil, append_assoc, length-append, Option, Some, None}
 use Rattle.std.specs.List.{flat_map}
 use Rattle.std.proofs.lemmas.Grind.{flat_map-append}
@@ -12,17 +12,17 @@ use Rattle.bar_outside.specs.Plan.Action.{append, create, link, read, show}
 use Rattle.bar_outside.specs.Plan.LinkCall.{receive}
 use Rattle.bar_outside.proofs.ActionLists.{Begun-both, Begun-first}
 use Rattle.bar_core.specs.Rules.{Rules}
-use Rattle.bar_node.specs.Turns.{Layout, turn, turns}
-use Rattle.bar_node.specs.Effects.{received_by, received_in}
+use Rattle.bar_node.specs.Code.Turns.{Layout, turn, turns}
+use Rattle.bar_node.specs.Code.Effects.{received_by, received_in}
 use Rattle.bar_node.specs.Runs.{due_if, input_of, inputs_of, node_from, run_if, taken_of}
 use Rattle.bar_node.specs.Stops.{Cut, IsFront}
 use Rattle.bar_node.proofs.TurnLists.{paced-step}
 use Rattle.bar_node.proofs.Receiving.{AreQuiet, received-quiet, quiet-begun}
 use Rattle.bar_node.proofs.Yields.{Yields, cons-nil, front-behind, front-none, front-same, front-trans, front-gives, over, own, own-then, same-gives, turns-give}
 
--- ---- one input after another
+-- ---- one input after the other
 
--- the inputs over which some turns were done, and the one that was done in part
+-- the inputs whose turns were done, and the one whose turn was done in part
 pub record InTurn (lay : Layout) (r : Rules) (before inputs : List Input) (tail done : List Action) : Type 0 where
   pub whole : List Input
   pub last : List Input
@@ -88,7 +88,7 @@ in-turn lay r before (x ∷ xs) tail done b =
           }
     ]
 
--- of two inputs at most, one is left at most
+-- of at most two inputs, at most one is left
 most-left : (inputs whole last left : List Input) → length inputs ≤ 2 → inputs ≡ whole ++ (last ++ left) →
     (length last ≡ 1) ⊎ (left ≡ []) → length left ≤ 1
 most-left inputs whole last left few is (inr none) = rw none (omega arith)
@@ -123,7 +123,7 @@ few-due last ticks run (Some (plain.Datagram bytes)) = by_tests (nat_le last tic
     by_tests false false true = omega arith
     by_tests false false false = omega arith
 
--- ---- one arrival after another
+-- ---- one arrival after the other
 
 -- The turns of the inputs of all arrivals but the last were done, and the last arrival was received.
 pub record Late (lay : Layout) (r : Rules) (before now : List Input) (run : ℕ) (given : List Arrival)
@@ -138,7 +138,7 @@ pub record Late (lay : Layout) (r : Rules) (before now : List Input) (run : ℕ)
 
 module _ (lay : Layout) (r : Rules) (silent : (before inputs : List Input) → AreQuiet (turns lay r before inputs))
     (tail : List Action) where
-  -- some inputs are due, and others come with what the link gave
+  -- some inputs are due, and the others follow with what the link gave
   pub late : (before now : List Input) (run : ℕ) (given : List Arrival) (done : List Action) → length now ≤ 2 →
       received_in done ≡ given → Begun (turns lay r before now ++ (node_from lay r (before ++ now) run given ++ tail)) done →
       Late lay r before now run given tail done
@@ -192,9 +192,10 @@ module _ (lay : Layout) (r : Rules) (silent : (before inputs : List Input) → A
             ]
       ]
 
--- ---- where a run was stopped
+-- ---- the position at which a run was stopped
 
--- The turns of all inputs that were begun but the last were done, and the last one's in part; or all turns, and some of what comes behind.
+-- The turns of all begun inputs but the last were done, and that of the last in part; or all turns were done, and a part of what follows
+-- them.
 pub record StopAt (lay : Layout) (r : Rules) (given : List Arrival) (tail done : List Action) : Type 0 where
   pub cut : Cut (taken_of r given)
   pub part : List Action
@@ -221,7 +222,7 @@ stop-late lay r tail given done l t = record {
   rest_is = t.rest_is;
 }
 
--- where a run was stopped that received all that was given
+-- the position at which a run was stopped that received everything that was given
 pub stop-at : (lay : Layout) (r : Rules) (silent : (before inputs : List Input) → AreQuiet (turns lay r before inputs))
     (tail : List Action) (given : List Arrival) (done : List Action) → received_in done ≡ given →
     Begun (node_from lay r [] 0 given ++ tail) done → StopAt lay r given tail done

@@ -1,4 +1,4 @@
--- How much was done of a plan that prints nothing, and what was received by it.
+-- How much was done of a plan that prints nothing, and what was received.
 use Rattle.std.proofs.Common.{◌≡◌, ◌⊎◌, ℕ, Bool, true, false, cond, List, [], ◌∷◌, ◌++◌, refl, sym, ap, ◌∙◌, subst, inl, inr, append-nil, append_assoc, IsTrue, Option, Some, None, IfSome, map}
 use Rattle.std.specs.List.{AllByRecursion}
 use Rattle.std.proofs.lemmas.Grind.{flat_map-append}
@@ -15,25 +15,25 @@ use Rattle.bar_outside.specs.Plan.LinkCall.{receive}
 use Rattle.bar_outside.proofs.ActionLists.{Begun-behind, Begun-longer, Begun-nothing, shown-append}
 use Rattle.bar_findings.specs.Findings.{Finding, finding_actions, findings_actions}
 use Rattle.bar_core.specs.Rules.{Rules}
-use Rattle.bar_node.specs.Effects.{received_by, received_in}
-use Rattle.bar_node.specs.Turns.{Layout, kept, node_layout, turns}
+use Rattle.bar_node.specs.Code.Effects.{received_by, received_in}
+use Rattle.bar_node.specs.Code.Turns.{Layout, kept, node_layout, turns}
 use Rattle.bar_node.specs.Runs.{HasDone, IsGiven, behind, closing, due_if, found_after, input_of, inputs_of, inputs_plan, is_ended, node_from, node_plan, run_if, taken_of}
 use Rattle.bar_node.proofs.Yields.{cons-nil}
 use Rattle.bar_node.proofs.Arriving.{due_next, node-next}
 use Rattle.bar_node.proofs.Receiving.{AreQuiet, quiet-begun, quiet-both, quiet-kept, quiet-turns, received-quiet, shown-quiet}
 
--- files and a link beside an output that has nothing
+-- an outside of files and a link, with an empty output
 abbrev pub silent_out : Stream
 silent_out = record { reliable = true; bytes = []; faults = 0 }
 
 abbrev pub beside : Disk → Wire → Outside
 beside files wire = outside files silent_out wire
 
--- no turn takes anything from the link, and none prints
+-- no turn receives anything from the link, and none prints
 abbrev pub IsSilent : Layout → Type 0
 IsSilent lay = (r : Rules) (before inputs : List Input) → AreQuiet (turns lay r before inputs)
 
--- ---- what is done behind the turns is quiet
+-- ---- the actions after the turns are quiet
 
 quiet-pieces : (name : List ℕ) (pieces : List (List ℕ)) → AreQuiet (map (append name) pieces)
 quiet-pieces name [] = tt
@@ -50,7 +50,7 @@ quiet-closing recording found r taken =
     quiet-both (kept recording (0 ∷ [])) (findings_actions (found_after found r taken)) (quiet-kept recording (0 ∷ []))
     (quiet-findings (found_after found r taken))
 
--- ---- over what a link gave exactly this is received, and nothing is printed
+-- ---- a plan over what a link gave receives exactly this, and prints nothing
 
 module _ (lay : Layout) (silent : IsSilent lay) (r : Rules) where
   pub received-node : (before : List Input) (run : ℕ) (given : List Arrival) → received_in (node_from lay r before run given) ≡ given
@@ -72,7 +72,7 @@ module _ (lay : Layout) (silent : IsSilent lay) (r : Rules) where
       ∙ ap (λ xs. xs ++ shown others) (shown-quiet (turns lay r before now) (silent r before now))
       ∙ shown-node (before ++ now) (run_if run (input_of a)) given
 
--- a whole run receives all that was given
+-- a whole run receives everything that was given
 pub received-run : (recording played : Option (List ℕ)) (found : List ℕ) (r : Rules) (given : List Arrival) →
     received_in (node_plan recording played found r given) ≡ given
 received-run recording played found r given =
@@ -93,7 +93,7 @@ module _ (given : List Arrival) (files files_new : Disk) (wire wire_new : Wire) 
   abbrev Did : List Action → Type 0
   Did plan = HasDone plan given files files_new wire wire_new
 
-  -- all of a front by which nothing was printed, and a part of what comes behind it and is quiet
+  -- all of a prefix that printed nothing, and a part of the following quiet actions
   pub did-behind : (front plan part : List Action) → received_in front ≡ given → shown front ≡ [] → AreQuiet plan → Begun plan part →
       Ran (front ++ part) (beside files wire) (beside files_new wire_new) → Did (front ++ plan)
   did-behind front plan part received none quiet begun ran = record {
@@ -122,7 +122,7 @@ module _ (given : List Arrival) (files files_new : Disk) (wire wire_new : Wire) 
     ran = d.ran;
   }
 
-  -- where the run wasn't at its end, the plan is longer
+  -- if the run wasn't at its end, the plan is longer
   pub did-before : (front more asked : List Action) (ended : Bool) → Did (front ++ cond ended [] asked) → Did (front ++ cond ended more asked)
   did-before front more asked true d = did-longer front more (subst Did (append-nil front) d)
   did-before front more asked false d = d
@@ -158,7 +158,7 @@ pub none-more : {X : Type 0} (xs : List X) (y : X) (zs : List X) → [] ≡ xs +
 none-more [] y zs e = cons-nil y zs (sym e)
 none-more (x ∷ xs) y zs e = cons-nil x (xs ++ y ∷ zs) (sym e)
 
--- a front before some element of a list with one more at its end is all but this one, or a front before some element of the list
+-- A proper prefix of a list with one more element is the list itself or a proper prefix of it.
 last-or-not : {X : Type 0} (xs ys : List X) (x y : X) (zs : List X) → xs ++ x ∷ [] ≡ ys ++ y ∷ zs →
     (ys ≡ xs) ⊎ ((more : List X) × (xs ≡ ys ++ y ∷ more))
 last-or-not [] [] x y zs e = inl refl
@@ -172,7 +172,7 @@ last-or-not (a ∷ xs) (b ∷ ys) x y zs e =
       | inr m ↦ inr (m.0, ap (λ v. v ∷ xs) f ∙ ap (λ vs. b ∷ vs) m.1)
     ]
 
--- a datagram that is one more has no more bytes than one can have
+-- one more datagram doesn't exceed the largest size
 within-more : (given : List Arrival) (a : Arrival) → AllByRecursion IsInRange (inputs_of given) → IfSome (input_of a) IsInRange →
     AllByRecursion IsInRange (inputs_of (given ++ a ∷ []))
 within-more [] Tick h k = (tt, tt)

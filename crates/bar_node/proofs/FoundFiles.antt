@@ -1,4 +1,4 @@
--- What was found by a run, and the files that a run leaves alone.
+-- What was found by a run, and the files that the run leaves alone.
 use Rattle.std.proofs.Common.{◌≡◌, ◌≢◌, ◌<◌, ◌^◌, ℕ, ◌+◌, Bool, true, false, cond, List, [], ◌∷◌, ◌++◌, length, refl, sym, ap, ◌∙◌, subst, inl, inr, append_assoc, Option, Some, None, IfSome, IsTrue, Result, Ok, Err}
 use Rattle.std.specs.List.{flat_map}
 use Rattle.bar_wire.specs.Inputs.{Input}
@@ -16,13 +16,13 @@ use Rattle.bar_findings.specs.Findings.{Finding, findings_actions}
 use Rattle.bar_findings.proofs.Holding.{AreWritten, all-written, evidence-there, table-there, touched-findings}
 use Rattle.bar_findings.proofs.Names.{findings-distinct}
 use Rattle.bar_core.specs.Rules.{Rules}
-use Rattle.bar_node.specs.Turns.{Layout, kept, node_layout, sent, turn, turns}
+use Rattle.bar_node.specs.Code.Turns.{Layout, kept, node_layout, sent, turn, turns}
 use Rattle.bar_node.specs.Runs.{RanNode, behind, closing, due_if, found_after, input_of, is_ended, node_from, node_plan, run_if, taken_of}
 use Rattle.bar_node.specs.Stops.{FoundBy, IsOther}
 use Rattle.bar_node.specs.declared.summary.Summary.{Summary}
 use Rattle.bar_node.proofs.Doing.{beside}
 
--- ---- which files are touched
+-- ---- the files that are touched
 
 touched-kept : (path bytes : List ℕ) (file : Option (List ℕ)) → IfSome file (λ name. path ≢ name) → Touches (kept file bytes) path → ⊥
 touched-kept path bytes None h t = t
@@ -86,7 +86,7 @@ module _ (recording played : Option (List ℕ)) (found : List ℕ) (r : Rules) w
       by_test true t = touched-closing path (taken_of r given) other t
       by_test false t = t
 
-  -- a run touches its own files alone
+  -- a run touches only its own files
   pub touched-plan : (given : List Arrival) (path : List ℕ) → IsOther recording played (found_after found r (taken_of r given)) path →
       Touches (node_plan recording played found r given) path → ⊥
   touched-plan given path other t =
@@ -116,7 +116,7 @@ module _ (recording played : Option (List ℕ)) (found : List ℕ) (r : Rules) w
     abbrev findings : List Finding
     findings = found_after found r taken
 
-    -- all that is done before it
+    -- everything that is done before it
     abbrev front : List Action
     front = node_from lay r [] 0 given ++ kept recording (0 ∷ [])
 

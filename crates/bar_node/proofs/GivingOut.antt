@@ -4,8 +4,8 @@ use Rattle.std.specs.List.{concat}
 use Rattle.std.proofs.lemmas.List.Folds.{concat-append}
 use Rattle.bar_wire.specs.Inputs.{Input}
 use Rattle.bar_core.specs.Rules.{Send}
-use Rattle.bar_core.specs.Face.{Face, Keeps}
-use Rattle.bar_node.specs.Counting.{capped}
+use Rattle.bar_core.specs.Code.Face.{Face, Keeps}
+use Rattle.bar_node.specs.Code.Counting.{capped}
 use Rattle.bar_node.proofs.Each.{SoFar}
 
 -- some contents were played
@@ -17,14 +17,14 @@ pub record Playing (was now : List Input → Type 0) (owed owes : List Input →
   pub so_far : SoFar start.plays at.plays IsDone
   pub counted : count ≡ capped (length (concat so_far.done))
 
--- some of these datagrams were given out, and the others are still owed
+-- some of these datagrams were given out, and the others are left to be given out
 pub record Sent (Owes : List Send → Type 0) (sends : List Send) (count : ℕ) (IsDone : List Send → Type 0) : Type 0 where
   pub left : List Send
   pub owed : Owes left
   pub so_far : SoFar sends left IsDone
   pub counted : count ≡ capped (length so_far.done)
 
--- some datagrams were given out of those that were owed, whichever they are
+-- some datagrams were given out, for any list of datagrams that were to be given out
 pub record Sending (was now : List Input → Type 0) (owed owes : List Input → List Send → Type 0) (start at : Face) (count : ℕ)
     (IsDone : List Send → Type 0) : Type 0 where
   pub keeps : Keeps was now start at

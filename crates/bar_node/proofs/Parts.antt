@@ -2,7 +2,7 @@
 use Rattle.std.proofs.Common.{List, ◌++◌, Result, Ok, Err}
 use Rattle.bar_outside.specs.declared.fault.Fault.{Fault}
 use Rattle.bar_outside.specs.Plan.{Outside, Action}
-use Rattle.bar_outside.specs.Follows.{Follows}
+use Rattle.bar_outside.specs.Code.Follows.{Follows}
 use Rattle.bar_outside.proofs.Following.{followed, stopped, handed}
 
 module _ (a b : List Action) (old new : Outside) where

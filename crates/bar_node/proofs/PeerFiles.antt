@@ -1,4 +1,4 @@
--- What a peer has played and recorded, whole or stopped.
+-- What a peer has played and recorded, completed or stopped.
 use Rattle.std.proofs.Common.{◌≡◌, ◌≢◌, ℕ, ◌+◌, Bool, true, false, cond, eqb, eq-eqb, List, [], ◌∷◌, ◌++◌, length, refl, sym, ap, ◌∙◌, subst, inl, inr, append-nil, IsTrue, Some}
 use Rattle.std.specs.List.{AllByRecursion, concat, flat_map}
 use Rattle.std.proofs.lemmas.Grind.{flat_map-append}
@@ -14,8 +14,8 @@ use Rattle.bar_findings.proofs.Names.{finding-names}
 use Rattle.bar_core.specs.Rules.{Rules}
 use Rattle.bar_core.specs.Runs.{contents_over}
 use Rattle.bar_laws.proofs.Logs.{all-map}
-use Rattle.bar_node.specs.Turns.{Layout, kept, node_layout, sent, turn}
-use Rattle.bar_node.specs.Effects.{added_by, added_in}
+use Rattle.bar_node.specs.Code.Turns.{Layout, kept, node_layout, sent, turn}
+use Rattle.bar_node.specs.Code.Effects.{added_by, added_in}
 use Rattle.bar_node.specs.Runs.{behind, found_after, is_ended, node_plan, taken_of}
 use Rattle.bar_node.specs.Stops.{AreApart, DonePeer, HasRun, IsAddedTo, IsApart, IsFront, StoppedPeer, end_of}
 use Rattle.bar_node.proofs.TurnLists.{each-none}
@@ -27,7 +27,7 @@ use Rattle.bar_node.proofs.SentOver.{sent-until, sent-whole}
 use Rattle.bar_node.proofs.AddedTo.{added-front, content-added, made-front, made_by, other-name}
 use Rattle.bar_bytes.proofs.Tests.{bytes_eq-refl}
 
--- ---- what each turn adds to a file
+-- ---- what each turn appends to a file
 
 abbrev plays_bytes : Rules → List Input → Input → List ℕ
 plays_bytes r before input = concat (r.contents before input)
@@ -66,7 +66,7 @@ module _ (recording played : List ℕ) where
       each-none (added_by recording) (kept (Some played))
       (λ content. ap (λ b. cond b content [] ++ []) (other-name recording played (λ e. differ (sym e)))) contents
 
-  -- what it plays is added to the played file, and its entry to the recording
+  -- what an input plays is appended to the played file, and its entry to the recording
   turn-adds : (path : List ℕ) (r : Rules) (before : List Input) (input : Input) →
       added_in path (turn lay r before input)
       ≡ added_by path (append recording (entry_bytes input)) ++ added_in path (flat_map (kept (Some played)) (r.contents before input))
@@ -101,7 +101,7 @@ module _ (recording played : List ℕ) where
     front = added-front recording;
   }
 
-  -- no turn makes a file
+  -- no turn creates a file
   yields-made : (path : List ℕ) (r : Rules) → Yields lay r (made_by path) makes_none
   yields-made path r = record {
     turn_is = λ before input.
@@ -113,7 +113,7 @@ module _ (recording played : List ℕ) where
     front = made-front path;
   }
 
--- ---- what comes behind the turns
+-- ---- what follows the turns
 
 module _ (path found : List ℕ) (apart : IsApart path found) (r : Rules) (taken : List Input) where
   other-names : AllByRecursion (λ f. path ≢ f.name) (found_after found r taken)
@@ -132,9 +132,9 @@ module _ (path found : List ℕ) (apart : IsApart path found) (r : Rules) (taken
       all-map (λ f. path ≢ f.name) (λ f. GivesNone (made_by path) f.name) (found_after found r taken)
       (λ f differ. (ap (λ b. cond b (tt ∷ []) []) (other-name path f.name differ), λ bytes. refl)) other-names
 
--- ---- what a file has of a stopped run
+-- ---- the content of a file after a stopped run
 
--- the longest front that bytes share with others
+-- the longest common prefix of two lists
 shared : List ℕ → List ℕ → List ℕ
 shared [] ys = []
 shared (x ∷ xs) [] = []
@@ -150,7 +150,7 @@ shared-front [] ys = front-none ys
 shared-front (x ∷ xs) [] = front-none []
 shared-front (x ∷ xs) (y ∷ ys) = one-more (eqb x y) y (shared xs ys) ys (shared-front xs ys)
 
--- it is all of them where they are such a front
+-- if the first list is a prefix of the second, it is the common prefix
 shared-same : (xs ys : List ℕ) → IsFront xs ys → shared xs ys ≡ xs
 unfolding shared
 shared-same [] ys f = refl
@@ -190,14 +190,14 @@ module _ (recording played found : List ℕ) (r : Rules) where
     abbrev AddedTo : List ℕ → List ℕ → Type 0
     AddedTo path bytes = IsAddedTo path old.files new.files bytes
 
-    -- no file but those of what is found is made anew
+    -- only the files of what is found are created
     made-plan : (path : List ℕ) → IsApart path found → flat_map (made_by path) the_plan ≡ []
     made-plan path apart =
         run-gives the_lay r (made_by path) makes_none (yields-made recording played path r) given (the_tail given)
         ∙ ap (λ ys. ys ++ flat_map (made_by path) (the_tail given)) (over-none [] (taken_of r given))
         ∙ made-behind path given apart
 
-    -- so it has all that was added to it
+    -- so the file contains everything that was appended to it
     file-until : (path : List ℕ) (one : List Input → Input → List ℕ) → Yields the_lay r (added_by path) one → IsApart path found →
         (done : List Action) → Begun the_plan done → Ran done old new → (s : StopAt the_lay r given (the_tail given) done) →
         AddedTo path (over one [] s.cut.whole ++ added_in path s.part)
@@ -245,7 +245,7 @@ module _ (recording played found : List ℕ) (r : Rules) where
               (file-until recording has_entry y apart.recording_apart h.done h.begun h.ran s));
         }
 
-    -- ---- what a file has of a whole run
+    -- ---- the content of a file after a whole run
 
     file-whole : (path : List ℕ) (one : List Input → Input → List ℕ) → Yields the_lay r (added_by path) one → IsApart path found →
         Ran the_plan old new → AddedTo path (over one [] (taken_of r given) ++ added_in path (the_tail given))

@@ -1,4 +1,4 @@
--- What actions take from a link.
+-- What actions receive from a link.
 use Rattle.std.proofs.Common.{◌≡◌, ℕ, ◌+◌, length, Bool, true, false, ◌||◌, List, [], ◌∷◌, ◌++◌, refl, sym, ap, ◌∙◌, subst, append-nil, append_assoc, Option, Some, None, Result, Ok, Err}
 use Rattle.std.proofs.Math.Bool.{or-false, or_assoc}
 use Rattle.std.specs.List.{flat_map}
@@ -9,13 +9,13 @@ use Rattle.bar_outside.specs.declared.fault.Fault.{Fault}
 use Rattle.bar_outside.specs.Plan.{Outside, Action, LinkCall, Ran, Begun, IsPartOf, IsPartOfNext, shown, traffic_after, traffic_by}
 use Rattle.bar_outside.specs.Plan.Action.{read, create, append, show, link}
 use Rattle.bar_outside.specs.Plan.LinkCall.{bind, receive, send}
-use Rattle.bar_outside.specs.Follows.{Follows}
+use Rattle.bar_outside.specs.Code.Follows.{Follows}
 use Rattle.bar_core.specs.Rules.{Rules, Send}
-use Rattle.bar_node.specs.Turns.{turn, turns, node_layout, kept, sent}
-use Rattle.bar_node.specs.Effects.{received_by, received_in}
+use Rattle.bar_node.specs.Code.Turns.{turn, turns, node_layout, kept, sent}
+use Rattle.bar_node.specs.Code.Effects.{received_by, received_in}
 use Rattle.bar_node.specs.Runs.{heard, has_end}
 
--- ---- actions by which the link gives nothing and isn't bound, and which print nothing
+-- ---- quiet actions: the link gives nothing and isn't bound, and nothing is printed
 
 abbrev pub IsQuietCall : LinkCall → Type 0
 IsQuietCall (bind to) = ⊥
@@ -46,7 +46,7 @@ quiet-rest : (xs ys : List Action) → AreQuiet (xs ++ ys) → AreQuiet ys
 quiet-rest [] ys h = h
 quiet-rest (x ∷ xs) ys h = quiet-rest xs ys h.1
 
--- no call of the link is a part of an action
+-- no call of the link is a partial action
 pub no-link-part : (call : LinkCall) (b : Action) → IsPartOf (link call) b → ⊥
 no-link-part call (read path) h = h
 no-link-part call (create path) h = h
@@ -54,7 +54,7 @@ no-link-part call (append path bytes) h = h
 no-link-part call (show bytes) h = h
 no-link-part call (link other) h = h
 
--- nor of a quiet one what is printed
+-- a partial quiet action doesn't print
 no-show-part : (bytes : List ℕ) (b : Action) → IsPartOf (show bytes) b → IsQuiet b → ⊥
 no-show-part bytes (read path) h k = h
 no-show-part bytes (create path) h k = h
@@ -72,7 +72,7 @@ quiet-part (append path bytes ∷ []) (b ∷ rest) h k = (tt, tt)
 quiet-part (show bytes ∷ []) (b ∷ rest) h k = absurd (no-show-part bytes b h k.0)
 quiet-part (a ∷ b ∷ more) rest h k = absurd h
 
--- so does what was done of them
+-- what was done of quiet actions is quiet
 pub quiet-begun : (plan done : List Action) → AreQuiet plan → Begun plan done → AreQuiet done
 quiet-begun plan done h b =
     let all = subst AreQuiet b.plan_is h in
@@ -89,12 +89,12 @@ received-one (create path) h = refl
 received-one (append path bytes) h = refl
 received-one (show bytes) h = absurd h
 
--- nothing is received by them
+-- quiet actions receive nothing
 pub received-quiet : (acts : List Action) → AreQuiet acts → received_in acts ≡ []
 received-quiet [] h = refl
 received-quiet (a ∷ acts) h = ap (λ xs. xs ++ received_in acts) (received-one a h.0) ∙ received-quiet acts h.1
 
--- and nothing is printed
+-- quiet actions print nothing
 pub shown-quiet : (acts : List Action) → AreQuiet acts → shown acts ≡ []
 shown-quiet [] h = refl
 shown-quiet (link call ∷ acts) h = shown-quiet acts h.1
@@ -103,7 +103,7 @@ shown-quiet (create path ∷ acts) h = shown-quiet acts h.1
 shown-quiet (append path bytes ∷ acts) h = shown-quiet acts h.1
 shown-quiet (show bytes ∷ acts) h = absurd h.0
 
--- ---- what a link gave stays as it was
+-- ---- what a link gave is unchanged
 
 pub record SameTaken (old new : Traffic) : Type 0 where
   pub taken : new.taken ≡ old.taken
@@ -130,14 +130,14 @@ same-ran : (done : List Action) (old new : Outside) → AreQuiet done → Ran do
     SameTaken old.wire.traffic new.wire.traffic
 same-ran done old new h ran = subst (SameTaken old.wire.traffic) (sym ran.wire) (same-after done old.wire.traffic h)
 
--- so it does under a plan that takes nothing, wherever it was stopped
+-- the same for a plan that receives nothing, wherever it was stopped
 pub same-taken : {T : Type 0} (plan : List Action) (old new : Outside) (q : Result T Fault) → AreQuiet plan →
     Follows plan old new q → SameTaken old.wire.traffic new.wire.traffic
 same-taken plan old new (Ok y) h f = same-ran plan old new h f.done
 same-taken plan old new (Err fault) h f =
     same-ran f.part.done old new (quiet-begun plan f.part.done h f.part.begun) f.part.ran
 
--- ---- the turns of a node take nothing
+-- ---- the turns of a node receive nothing
 
 pub quiet-kept : (path : Option (List ℕ)) (bytes : List ℕ) → AreQuiet (kept path bytes)
 quiet-kept None bytes = tt
@@ -205,7 +205,7 @@ ended-gave Tick t = sym (or-false t.ended)
 ended-gave (Datagram bytes) t = sym (or-false t.ended)
 ended-gave End t = or-true t.ended
 
--- it gave one more
+-- the link gave one more arrival
 pub heard-more : {S : Type 0} (a : Arrival) (given : List Arrival) (before : Wire) (old new : Outside) (y : S) →
     Heard given before old.wire → Follows (link (receive (Some a)) ∷ []) old new (Ok y) → Heard (given ++ a ∷ []) before new.wire
 heard-more a given before old new y h f = record {

@@ -1,4 +1,4 @@
--- A node's run writes its files, takes what a link gives and sends over it; it binds no link and prints nothing.
+-- A node's run writes its files, receives what a link gives and sends over it; it binds no link and prints nothing.
 use Rattle.std.proofs.Common.{ℕ, ◌+◌, Bool, true, false, cond, List, [], ◌∷◌, ◌++◌, Option, None, Some, IfSome, length, map}
 use Rattle.std.specs.List.{AllByRecursion, flat_map}
 use Rattle.bar_wire.specs.Inputs.{Input}
@@ -12,12 +12,12 @@ use Rattle.bar_findings.specs.Findings.{Finding, IsFindingName, finding_actions,
 use Rattle.bar_findings.proofs.Names.{finding-names}
 use Rattle.bar_core.specs.Rules.{Rules, Send}
 use Rattle.bar_laws.proofs.Logs.{all-both, all-map}
-use Rattle.bar_node.specs.Turns.{Layout, kept, node_layout, sent, turn, turns}
+use Rattle.bar_node.specs.Code.Turns.{Layout, kept, node_layout, sent, turn, turns}
 use Rattle.bar_node.specs.Runs.{behind, closing, due_if, found_after, input_of, is_ended, node_from, node_plan, run_if, taken_of}
 use Rattle.bar_node.proofs.ActionKinds.{AreAmong, IsAmong, IsUnbinding}
 
 module _ (P : List ℕ → Type 0) where
-  -- a run's action, where its files have such names
+  -- an action of a run whose files have names in P
   abbrev IsOfRun : Action → Type 0
   IsOfRun act = IsAmong P IsUnbinding ⊥ act
 

@@ -10,19 +10,19 @@ use Rattle.bar_outside.specs.declared.fault.Fault.TheVariants.{NoMemory}
 use Rattle.bar_outside.specs.Plan.{Outside, Action, Begun, Ran, with_files, with_wire}
 use Rattle.bar_outside.specs.Plan.Action.{link}
 use Rattle.bar_outside.specs.Plan.LinkCall.{receive}
-use Rattle.bar_outside.specs.Follows.{Follows}
+use Rattle.bar_outside.specs.Code.Follows.{Follows}
 use Rattle.bar_outside.proofs.ActionLists.{Begun-nothing, Begun-whole, Ran-append}
 use Rattle.bar_outside.proofs.Following.{Ran-nothing, true-not_false, answered, followed, stopped, handed, no_memory}
 use Rattle.bar_core.specs.Rules.{Rules}
-use Rattle.bar_node.specs.Turns.{node_layout}
-use Rattle.bar_node.specs.Counting.{counts_over}
+use Rattle.bar_node.specs.Code.Turns.{node_layout}
+use Rattle.bar_node.specs.Code.Counting.{counts_over}
 use Rattle.bar_node.specs.Runs.{HasDone, RanInputs, RanNode, closing, is_ended, node_from, node_plan, summary_of, taken_of}
 use Rattle.bar_node.specs.declared.counts.Counts.{Counts}
 use Rattle.bar_node.specs.declared.summary.Summary.{Summary}
 use Rattle.bar_node.proofs.Receiving.{heard-none, quiet-turns}
 use Rattle.bar_node.proofs.Doing.{beside, did-before, did-behind, given-none, quiet-closing, received-node, shown-node}
 
--- a plan of inputs that was stopped, and what was to come behind it
+-- a plan of inputs that was stopped, and what was to follow it
 module _ {S T : Type 0} (front more asked : List Action) (old new : Outside) (fault : Fault) where
   stopped-before : (ended : Bool) → Follows {T = S} (front ++ cond ended [] asked) old new (Err fault) →
       Follows {T = T} (front ++ cond ended more asked) old new (Err fault)
@@ -31,7 +31,7 @@ module _ {S T : Type 0} (front more asked : List Action) (old new : Outside) (fa
       (stopped front more old new fault (subst (λ acts. Follows {T = S} acts old new (Err fault)) (append-nil front) f))
   stopped-before false f = handed _ old new fault f
 
--- a plan of inputs that was done, and what came behind it
+-- a plan of inputs that was done, and what followed it
 module _ {S T : Type 0} (front more asked : List Action) (old mid new : Outside) (y : S) (q : Result T Fault) where
   done-before : (ended : Bool) → ended ≡ true → Follows (front ++ cond ended [] asked) old mid (Ok y) → Follows more mid new q →
       Follows (front ++ cond ended more asked) old new q
@@ -39,7 +39,7 @@ module _ {S T : Type 0} (front more asked : List Action) (old mid new : Outside)
   done-before false e f g = absurd (true-not_false (sym e))
 
 module _ (recording played : Option (List ℕ)) (found : List ℕ) (r : Rules) (now : List Input → Type 0) (files : Disk) (wire : Wire) where
-  -- nothing was done, for want of memory
+  -- nothing was done, because memory ran out
   pub not-run : RanNode recording played found r now files files wire wire (Err NoMemory)
   not-run = record {
     given = [];
@@ -92,7 +92,7 @@ module _ (recording played : Option (List ℕ)) (found : List ℕ) (r : Rules) (
           done-before (node_from (node_layout recording played) r [] 0 i.given) (closing recording found r (taken_of r i.given))
           (link (receive None) ∷ []) _ _ _ counts q (is_ended r i.given) i.ended (i.follows w) (closed files_new q f (with_wire w wire_at))
 
-      -- the turns alone
+      -- only the turns
       turned : (w : Outside) → Follows (node_from (node_layout recording played) r [] 0 i.given)
           (with_wire (with_files w files) wire) (with_wire (with_files w files_at) wire_at) (Ok counts)
       turned w =
@@ -101,7 +101,7 @@ module _ (recording played : Option (List ℕ)) (found : List ℕ) (r : Rules) (
           (subst (λ b. Follows (node_from (node_layout recording played) r [] 0 i.given ++ cond b [] (link (receive None) ∷ []))
           (with_wire (with_files w files) wire) (with_wire (with_files w files_at) wire_at) (Ok counts)) i.ended (i.follows w))
 
-      -- some of its closing was done
+      -- a part of its closing was done
       did-closed : (files_new : Disk) (part : List Action) → Begun (closing recording found r (taken_of r i.given)) part →
           Ran part (beside files_at wire_at) (beside files_new wire_at) →
           HasDone (node_plan recording played found r i.given) i.given files files_new wire wire_at
@@ -132,7 +132,7 @@ module _ (recording played : Option (List ℕ)) (found : List ℕ) (r : Rules) (
         summary = tt;
       }
 
-      -- it was done
+      -- the run completed
       pub run-done : {S : Type 0} (files_new : Disk) (y : S) (summary : Summary) →
           ((w : Outside) → Follows (closing recording found rules_at (taken_of r i.given))
           (with_files w files_at) (with_files w files_new) (Ok y)) →
@@ -150,7 +150,7 @@ module _ (recording played : Option (List ℕ)) (found : List ℕ) (r : Rules) (
         summary = e;
       }
 
--- the time is all ticks that were taken, since no more are than up to the last
+-- the time is the number of all ticks taken, because none is taken after the last tick
 all-ticks : (r : Rules) (inputs : List Input) (ticks end : ℕ) → ticks ≡ min (ticks_of (paced r.last inputs)) end → end ≡ r.last →
     ticks ≡ ticks_of (paced r.last inputs)
 all-ticks r inputs ticks end e same = let few = few_ticks r.last 0 0 inputs (omega arith) in omega arith

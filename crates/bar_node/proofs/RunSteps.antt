@@ -6,18 +6,18 @@ use Rattle.bar_record.specs.Pacing.{due, is_datagram, most_in_a_row, run_after, 
 use Rattle.bar_outside.specs.Disk.{Disk}
 use Rattle.bar_outside.specs.Wire.{Wire, Arrival, Tick, Datagram, End}
 use Rattle.bar_outside.specs.declared.fault.Fault.{Fault}
-use Rattle.bar_outside.specs.Faults.{code_of_fault}
+use Rattle.bar_outside.specs.Code.Faults.{code_of_fault}
 use Rattle.bar_outside.specs.Plan.{Outside, Action, Reached, with_files, with_wire}
 use Rattle.bar_outside.specs.Plan.Action.{link}
 use Rattle.bar_outside.specs.Plan.LinkCall.{receive}
-use Rattle.bar_outside.specs.Follows.{Follows}
+use Rattle.bar_outside.specs.Code.Follows.{Follows}
 use Rattle.bar_outside.proofs.ActionLists.{Ran-append}
 use Rattle.bar_outside.proofs.Following.{answered, followed, handed, nothing_done, stopped}
 use Rattle.bar_core.specs.Rules.{Rules}
-use Rattle.bar_core.specs.Face.{Face, IsIdle}
-use Rattle.bar_node.specs.Turns.{Layout, turns}
-use Rattle.bar_node.specs.Taking.{Took}
-use Rattle.bar_node.specs.Counting.{both, capped}
+use Rattle.bar_core.specs.Code.Face.{Face, IsIdle}
+use Rattle.bar_node.specs.Code.Turns.{Layout, turns}
+use Rattle.bar_node.specs.Code.Taking.{Took}
+use Rattle.bar_node.specs.Code.Counting.{both, capped}
 use Rattle.bar_node.specs.Runs.{input_of, has_end, due_if, run_if, node_from, is_ended, taken_of, HasDone, IsGiven, RanInputs}
 use Rattle.bar_node.specs.declared.counts.Counts.{Counts}
 use Rattle.bar_node.proofs.Turning.{took-both, took-along}
@@ -42,7 +42,7 @@ pub record Arrived (lay : Layout) (now : List Input → Type 0) (r : Rules) (at 
       (with_wire (with_files w files) wire) (with_wire (with_files w files_at) wire_at) (Ok tt)
   pub gave : Heard given wire wire_at
 
--- ---- the count of what was taken, which is exact
+-- ---- the count of the inputs taken, which is exact
 
 exact : (inputs n last : ℕ) → inputs ≡ capped n → n ≤ (most_in_a_row + 1) * last → last < 2 ^ 32 → (inputs ≡ n) × (inputs + 2 < 2 ^ 64)
 exact inputs n last e few small = (omega arith, omega arith)
@@ -69,7 +69,7 @@ goes-on-more : (given : List Arrival) (a : Arrival) (input : Input) → has_end 
     has_end (given ++ a ∷ []) ≡ false
 goes-on-more given a input h is = has_end-append given (a ∷ []) ∙ or_from _ _ h (is-no-end a input is)
 
--- the plan is longer where the run isn't at its end
+-- if the run isn't at its end, the plan is longer
 module _ {T : Type 0} (plan more : List Action) (old new : Outside) where
   at-its-end : (ended : Bool) (q : Result T Fault) → ended ≡ true → Follows plan old new q → Follows (plan ++ cond ended [] more) old new q
   at-its-end ended q e f =
@@ -85,14 +85,14 @@ module _ (lay : Layout) (now : List Input → Type 0) (r : Rules) (at : Face) (r
   last-is : at.rules.last ≡ r.last
   last-is = ap (λ (rules : Rules). rules.last) i.rules
 
-  -- where the time isn't over, the run isn't at its end
+  -- if the last tick wasn't taken, the run isn't at its end
   goes-on : false ≡ nat_le at.rules.last at.ticks → is_ended r i.given ≡ false
   goes-on goes = or_from _ _ i.goes_on (ticks-early (taken_of r i.given) _ _ _ timed last-is goes)
 
   first : Follows {T = Unit {0}} (node_from lay r [] 0 i.given) (beside files wire) (beside files_at wire_at) (Ok tt)
   first = i.follows (beside files wire)
 
-  -- ---- at the link
+  -- ---- a call of the link
 
   -- the link failed
   pub failed-receiving : {S : Type 0} (later : List Input → Type 0) (wire_new : Wire) (fault : Fault) →
@@ -147,7 +147,7 @@ module _ (lay : Layout) (now : List Input → Type 0) (r : Rules) (at : Face) (r
         heard-more a i.given wire (beside files_at wire_at) (beside files_at wire_mid) y i.gave
         (f (beside files_at wire_at))
 
-    -- the end was given
+    -- the link gave its end
     pub at-end : false ≡ nat_le at.rules.last at.ticks → None ≡ input_of a → RanInputs lay now r files files_at wire wire_mid (Ok counts)
     at-end goes e =
         let none : due_next lay r i.given a ≡ [] =
@@ -171,7 +171,7 @@ module _ (lay : Layout) (now : List Input → Type 0) (r : Rules) (at : Face) (r
           ended = ended;
         }
 
-    -- ---- at the turns of what is due
+    -- ---- the turns of what is due
 
     module _ (input : Input) (is : Some input ≡ input_of a) (fits : IsInRange input) (early : false ≡ nat_le at.rules.last at.ticks) where
       goes : at.ticks < at.rules.last
@@ -235,7 +235,7 @@ module _ (lay : Layout) (now : List Input → Type 0) (r : Rules) (at : Face) (r
                 (beside files_at wire_mid) (beside files_new wire_new)
             taking = (same-turns _ _ (Err fault) (h (beside files_at wire_mid))).part
 
-        -- it was taken
+        -- the input was taken
         pub arrived-more : (later : List Input → Type 0) (new : Face) (run_new : ℕ) (more : Counts) →
             ((w : Outside) → Follows (turns lay at.rules (taken_of r i.given) (due at.rules.last at.ticks run input))
             (with_wire (with_files w files_at) wire_mid) (with_wire (with_files w files_new) wire_new) (Ok more)) →

@@ -1,4 +1,4 @@
--- What a node has sent, whole or stopped.
+-- What a node has sent, completed or stopped.
 use Rattle.std.proofs.Common.{◌≡◌, ℕ, ◌+◌, List, [], ◌∷◌, ◌++◌, length, refl, sym, ap, ◌∙◌, subst, append-nil, Option, Some, None}
 use Rattle.std.specs.List.{flat_map}
 use Rattle.std.proofs.lemmas.Grind.{flat_map-append}
@@ -13,8 +13,8 @@ use Rattle.bar_findings.proofs.Names.{finding-names}
 use Rattle.bar_core.specs.Rules.{Rules, Send}
 use Rattle.bar_core.specs.Runs.{sends_over}
 use Rattle.bar_laws.proofs.Logs.{all-map}
-use Rattle.bar_node.specs.Turns.{Layout, kept, node_layout, sent, turn}
-use Rattle.bar_node.specs.Effects.{sent_by, sent_in}
+use Rattle.bar_node.specs.Code.Turns.{Layout, kept, node_layout, sent, turn}
+use Rattle.bar_node.specs.Code.Effects.{sent_by, sent_in}
 use Rattle.bar_node.specs.Runs.{behind, found_after, node_plan, taken_of}
 use Rattle.bar_node.specs.Stops.{HasRun, IsFront, StoppedSending}
 use Rattle.bar_node.proofs.TurnLists.{each-none, traffic-adds}
@@ -77,7 +77,7 @@ over-sends : (r : Rules) (before inputs : List Input) → over r.sends before in
 over-sends r before [] = refl
 over-sends r before (x ∷ xs) = ap (λ ys. r.sends before x ++ ys) (over-sends r (before ++ x ∷ []) xs)
 
--- nothing is sent behind the turns
+-- nothing is sent after the turns
 sent-behind : (recording : Option (List ℕ)) (found : List ℕ) (r : Rules) (given : List Arrival) →
     sent_in (behind recording found r given) ≡ []
 sent-behind recording found r given =
@@ -89,7 +89,7 @@ sent-behind recording found r given =
 
 -- ---- what was sent
 
--- all that some inputs send, and a front of what those behind them send
+-- everything that some inputs send, and a prefix of what the following inputs send
 pub record SentUntil (r : Rules) (whole last : List Input) (wire wire_new : Wire) : Type 0 where
   pub sent : List Send
   pub front : IsFront sent (sends_over r whole last)
@@ -102,7 +102,7 @@ module _ (recording played : Option (List ℕ)) (found : List ℕ) (r : Rules) (
   abbrev tail : List Action
   tail = behind recording found r given
 
-  -- a run that is done
+  -- a run that completed
   pub sent-whole : Ran (node_plan recording played found r given) old new →
       new.wire.traffic.sent ≡ old.wire.traffic.sent ++ sends_over r [] (taken_of r given)
   sent-whole ran =
@@ -114,7 +114,7 @@ module _ (recording played : Option (List ℕ)) (found : List ℕ) (r : Rules) (
       ∙ append-nil (over r.sends [] (taken_of r given))
       ∙ over-sends r [] (taken_of r given))
 
-  -- a run of which a part is done
+  -- a run that was done in part
   pub sent-until : (done : List Action) → Ran done old new → (s : StopAt lay r given tail done) →
       SentUntil r s.cut.whole s.cut.last old.wire new.wire
   sent-until done ran s =

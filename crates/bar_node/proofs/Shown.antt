@@ -1,4 +1,4 @@
--- A replay before its inputs are at an end.
+-- A replay before all its inputs are taken.
 use Rattle.std.proofs.Common.{◌≡◌, ◌≤◌, ◌<◌, ℕ, ◌+◌, ◌*◌, ◌^◌, nat_le, min, true, List, [], ◌∷◌, ◌++◌, length, sym, ap, ◌∙◌, subst, arith, append-nil, append_assoc, length-append, Result, Ok, Err}
 use Rattle.bar_wire.specs.Inputs.{Input}
 use Rattle.bar_record.specs.Pacing.{due, is_datagram, paced, paced_from, run_after, ticks_of}
@@ -6,12 +6,12 @@ use Rattle.bar_record.proofs.PacingLemmas.{none_late, ticks_joined}
 use Rattle.bar_record.proofs.DueLemmas.{all-count, few-due, row-stays, ticks-late}
 use Rattle.bar_outside.specs.declared.fault.Fault.{Fault}
 use Rattle.bar_outside.specs.Plan.{Outside}
-use Rattle.bar_outside.specs.Follows.{Follows}
+use Rattle.bar_outside.specs.Code.Follows.{Follows}
 use Rattle.bar_core.specs.Rules.{Rules}
-use Rattle.bar_core.specs.Face.{Face, IsIdle}
-use Rattle.bar_node.specs.Turns.{Layout, turns}
-use Rattle.bar_node.specs.Taking.{Took}
-use Rattle.bar_node.specs.Counting.{capped, both}
+use Rattle.bar_core.specs.Code.Face.{Face, IsIdle}
+use Rattle.bar_node.specs.Code.Turns.{Layout, turns}
+use Rattle.bar_node.specs.Code.Taking.{Took}
+use Rattle.bar_node.specs.Code.Counting.{capped, both}
 use Rattle.bar_node.specs.declared.counts.Counts.{Counts}
 use Rattle.bar_node.proofs.Turning.{turns-then, turns-stopped, turns-along, took-both}
 
@@ -59,7 +59,7 @@ module _ (now : List Input → Type 0) (r : Rules) (at : Face) (run : ℕ) (all 
       count-exact small = exact _ _ _ _ _ (ap (λ (k : Counts). k.inputs) i.took.counted) few-at goes small i.row
 
       module _ (input : Input) (rest : List Input) (is : left ≡ input ∷ rest) where
-        -- what is due now, and what is taken behind it
+        -- what is due now, and what is taken after it
         more : List Input
         more = due r.last (ticks_of i.taken) run input
 
@@ -100,7 +100,7 @@ module _ (now : List Input → Type 0) (r : Rules) (at : Face) (run : ℕ) (all 
             turns-then lay r [] i.taken (due at.rules.last at.ticks run input) old mid new y q first
             (subst (λ (rules : Rules). Follows (turns lay rules i.taken (due at.rules.last at.ticks run input)) mid new q) i.rules second)
 
-        -- one input more
+        -- one more input
         pub shown-more : (later : List Input → Type 0) (new : Face) (run_new : ℕ) (added : Counts) (IsDoneNow : List Input → Type 0) →
             Took i.taken later at.rules (due at.rules.last at.ticks run input) added → IsIdle new → new.rules ≡ at.rules →
             run_new ≡ run_after run (is_datagram input) → IsDoneNow (i.taken ++ due at.rules.last at.ticks run input) →

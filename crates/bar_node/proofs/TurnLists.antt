@@ -1,4 +1,4 @@
--- The turns of inputs, one after another, and what actions add to a link's traffic.
+-- The turns of inputs, one after the other, and what actions add to a link's traffic.
 use Rattle.std.proofs.Common.{◌≡◌, ℕ, ◌+◌, List, [], ◌∷◌, ◌++◌, refl, sym, ap, ◌∙◌, append-nil, append_assoc, arith}
 use Rattle.std.specs.List.{flat_map}
 use Rattle.std.proofs.lemmas.Grind.{flat_map-append}
@@ -8,7 +8,7 @@ use Rattle.bar_record.proofs.PacingLemmas.{ticks_joined}
 use Rattle.bar_outside.specs.Wire.{Arrival, Datagram, End, Tick, Traffic}
 use Rattle.bar_outside.specs.Plan.{Action, traffic_after, traffic_by}
 use Rattle.bar_core.specs.Rules.{Rules}
-use Rattle.bar_node.specs.Turns.{Layout, turn, turns}
+use Rattle.bar_node.specs.Code.Turns.{Layout, turn, turns}
 use Rattle.bar_node.specs.Runs.{due_if, input_of, inputs_of, run_if}
 
 -- ---- turns, and what is taken
@@ -25,7 +25,7 @@ turns-append lay r before (x ∷ xs) ys =
     ∙ ap (λ h. turns lay r (before ++ x ∷ []) xs ++ turns lay r h ys) (snoc-append before x xs))
     ∙ sym (append_assoc (turn lay r before x) (turns lay r (before ++ x ∷ []) xs) (turns lay r (before ++ x ∷ xs) ys))
 
--- what is due at an arrival, and then at those behind it
+-- what is due at an arrival, and then at the following ones
 pub paced-step : (last : ℕ) (before : List Input) (run : ℕ) (a : Arrival) (given : List Arrival) →
     paced_from last (ticks_of before) run (inputs_of (a ∷ given))
     ≡ due_if last (ticks_of before) run (input_of a)
@@ -45,7 +45,7 @@ paced-step last before run a given =
 
 -- ---- what actions add to the link's traffic
 
--- where each action adds to a list of the traffic, they add all of it in order
+-- if each action adds to a list of the traffic, a list of actions adds all of it in order
 pub traffic-adds : {X : Type 0} (part : Traffic → List X) (gives : Action → List X) →
     ((a : Action) (t : Traffic) → part (traffic_by a t) ≡ part t ++ gives a) →
     (acts : List Action) (t : Traffic) → part (traffic_after acts t) ≡ part t ++ flat_map gives acts
@@ -60,7 +60,7 @@ traffic-adds part gives one (a ∷ acts) t =
 both-none : {X : Type 0} (xs ys : List X) → xs ≡ [] → ys ≡ [] → xs ++ ys ≡ []
 both-none xs ys e f = rw (e, f) refl
 
--- where what is done for each thing gives nothing, all of it gives nothing
+-- if the actions for each element give nothing, those for all elements give nothing
 pub each-none : {X Y : Type 0} (gives : Action → List X) (f : Y → List Action) → ((y : Y) → flat_map gives (f y) ≡ []) → (ys : List Y) →
     flat_map gives (flat_map f ys) ≡ []
 each-none gives f none [] = refl

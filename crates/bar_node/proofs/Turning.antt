@@ -1,18 +1,18 @@
--- The turns of inputs: one, and several one after another.
+-- The turns of inputs: of one, and of several, one after the other.
 use Rattle.std.proofs.Common.{◌≡◌, ℕ, ◌+◌, List, [], ◌∷◌, ◌++◌, length, refl, sym, ap, ◌∙◌, subst, arith, append-nil, append_assoc, length-append, Result, Ok, Err}
 use Rattle.std.specs.List.{concat, flat_map}
 use Rattle.std.proofs.lemmas.List.Folds.{concat-append}
 use Rattle.bar_wire.specs.Inputs.{Input}
 use Rattle.bar_outside.specs.declared.fault.Fault.{Fault}
 use Rattle.bar_outside.specs.Plan.{Outside, Action}
-use Rattle.bar_outside.specs.Follows.{Follows}
+use Rattle.bar_outside.specs.Code.Follows.{Follows}
 use Rattle.bar_outside.proofs.Following.{followed, stopped, handed}
 use Rattle.bar_core.specs.Rules.{Rules}
 use Rattle.bar_core.specs.Runs.{sends_over, contents_over}
 use Rattle.bar_core.proofs.OverLists.{sends_over-append, contents_over-append}
-use Rattle.bar_node.specs.Turns.{Layout, turn, turns}
-use Rattle.bar_node.specs.Counting.{capped, counts_over, both}
-use Rattle.bar_node.specs.Taking.{Took}
+use Rattle.bar_node.specs.Code.Turns.{Layout, turn, turns}
+use Rattle.bar_node.specs.Code.Counting.{capped, counts_over, both}
+use Rattle.bar_node.specs.Code.Taking.{Took}
 use Rattle.bar_node.specs.declared.counts.Counts.{Counts}
 use Rattle.bar_node.proofs.TurnLists.{turns-append}
 
@@ -47,7 +47,7 @@ counted-one r before input played sent e f =
 
 -- ---- what was taken
 
--- inputs were taken, and then others
+-- some inputs were taken, and then others
 pub took-both : (before : List Input) (mid now : List Input → Type 0) (r : Rules) (xs ys : List Input) (a b : Counts) →
     Took before mid r xs a → Took (before ++ xs) now r ys b → Took before now r (xs ++ ys) (both a b)
 took-both before mid now r xs ys a b first second = record {
@@ -63,7 +63,7 @@ pub took-none : (before : List Input) (was : List Input → Type 0) (r : Rules) 
     Took before was r [] (record { inputs = 0; sent = 0; played = 0 })
 took-none before was r stands = record { stands = subst was (sym (append-nil before)) stands; counted = refl }
 
--- the same inputs
+-- equal lists of inputs
 pub took-along : (before : List Input) (now : List Input → Type 0) (r : Rules) (xs ys : List Input) (counts : Counts) → ys ≡ xs →
     Took before now r xs counts → Took before now r ys counts
 took-along before now r xs ys counts e t = subst (λ inputs. Took before now r inputs counts) (sym e) t
@@ -104,7 +104,7 @@ module _ (lay : Layout) (r : Rules) (before : List Input) (input : Input) (old n
 
 -- ---- several turns
 
--- turns, and then others
+-- some turns, and then others
 pub turns-then : {S T : Type 0} (lay : Layout) (r : Rules) (before xs ys : List Input) (old mid new : Outside) (y : S)
     (q : Result T Fault) → Follows (turns lay r before xs) old mid (Ok y) → Follows (turns lay r (before ++ xs) ys) mid new q →
     Follows (turns lay r before (xs ++ ys)) old new q
@@ -112,14 +112,14 @@ turns-then lay r before xs ys old mid new y q first second =
     subst (λ plan. Follows plan old new q) (sym (turns-append lay r before xs ys))
     (followed (turns lay r before xs) (turns lay r (before ++ xs) ys) old mid new y first q second)
 
--- a fault at some turns, and none behind them
+-- a fault at some turns, and none after it
 pub turns-stopped : {T : Type 0} (lay : Layout) (r : Rules) (before xs ys : List Input) (old new : Outside) (fault : Fault) →
     Follows {T = T} (turns lay r before xs) old new (Err fault) → Follows {T = T} (turns lay r before (xs ++ ys)) old new (Err fault)
 turns-stopped {T} lay r before xs ys old new fault f =
     subst (λ plan. Follows {T = T} plan old new (Err fault)) (sym (turns-append lay r before xs ys))
     (stopped (turns lay r before xs) (turns lay r (before ++ xs) ys) old new fault f)
 
--- the same inputs
+-- equal lists of inputs
 pub turns-along : {T : Type 0} (lay : Layout) (r : Rules) (before xs ys : List Input) (old new : Outside) (q : Result T Fault) → ys ≡ xs →
     Follows (turns lay r before xs) old new q → Follows (turns lay r before ys) old new q
 turns-along lay r before xs ys old new q e f = subst (λ inputs. Follows (turns lay r before inputs) old new q) (sym e) f

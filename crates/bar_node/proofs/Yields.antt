@@ -1,4 +1,4 @@
--- What actions give, such as datagrams or bytes of a file, where it is known of each turn.
+-- What actions give, such as datagrams or bytes of a file, if it is known for each turn.
 use Rattle.std.proofs.Common.{◌≡◌, ℕ, List, [], ◌∷◌, ◌++◌, refl, sym, ap, ◌∙◌, subst, append-nil, append_assoc, Option}
 use Rattle.std.specs.List.{flat_map}
 use Rattle.std.proofs.lemmas.Grind.{flat_map-append}
@@ -9,12 +9,12 @@ use Rattle.bar_outside.specs.Plan.{Action, Begun, IsPartOfNext}
 use Rattle.bar_outside.specs.Plan.Action.{append, create, link, read, show}
 use Rattle.bar_outside.specs.Plan.LinkCall.{bind, receive, send}
 use Rattle.bar_core.specs.Rules.{Rules}
-use Rattle.bar_node.specs.Turns.{Layout, turn, turns}
+use Rattle.bar_node.specs.Code.Turns.{Layout, turn, turns}
 use Rattle.bar_node.specs.Runs.{due_if, input_of, inputs_of, node_from, run_if, taken_of}
 use Rattle.bar_node.specs.Stops.{IsFront}
 use Rattle.bar_node.proofs.TurnLists.{paced-step, turns-append}
 
--- ---- fronts
+-- ---- prefixes
 
 pub front-behind : {X : Type 0} (first xs ys : List X) → IsFront xs ys → IsFront (first ++ xs) (first ++ ys)
 front-behind first xs ys f = record { rest = f.rest; is = ap (λ zs. first ++ zs) f.is ∙ sym (append_assoc first xs f.rest) }
@@ -43,18 +43,18 @@ front-of-none (x ∷ xs) all f e = absurd (cons-nil x (xs ++ f.rest) (sym f.is �
 
 -- ---- what is given input by input
 
--- what inputs give, by what each gives behind those before it
+-- what a list of inputs gives, if each gives this after the inputs before it
 abbrev pub over : {X : Type 0} → (List Input → Input → List X) → List Input → List Input → List X
 over one before [] = []
 over one before (input ∷ inputs) = one before input ++ over one (before ++ input ∷ []) inputs
 
--- At each turn this is given; nothing is given where the link is asked, and by a part of an action no more than a front.
+-- Each turn gives this. A call that asks the link gives nothing, and a partial action gives a prefix of what the whole action gives.
 pub record Yields {X : Type 0} (lay : Layout) (r : Rules) (gives : Action → List X) (one : List Input → Input → List X) : Type 0 where
   pub turn_is : (before : List Input) (input : Input) → flat_map gives (turn lay r before input) ≡ one before input
   pub none : (came : Option Arrival) → gives (link (receive came)) ≡ []
   pub front : (part rest : List Action) → IsPartOfNext part rest → IsFront (flat_map gives part) (flat_map gives rest)
 
--- ---- what is done, but for the link that is asked
+-- ---- all actions except the calls that ask the link
 
 abbrev pub own_of : Action → List Action
 own_of (link (receive came)) = []
@@ -81,7 +81,7 @@ own-then lay r before xs ys done more part e f =
     ∙ ap own (sym (append_assoc (turns lay r before xs) (turns lay r (before ++ xs) ys) part))
     ∙ ap (λ acts. own (acts ++ part)) (sym (turns-append lay r before xs ys))
 
--- over arrivals the turns of the paced list are done
+-- over some arrivals the turns of the paced inputs are done
 pub own-node : (lay : Layout) (r : Rules) (before : List Input) (run : ℕ) (given : List Arrival) →
     own (node_from lay r before run given) ≡ own (turns lay r before (paced_from r.last (ticks_of before) run (inputs_of given)))
 own-node lay r before run [] = refl
@@ -92,7 +92,7 @@ own-node lay r before run (a ∷ given) =
     own-behind (turns lay r before now) _ _ (own-node lay r (before ++ now) next given)
     ∙ ap own (sym (turns-append lay r before now later) ∙ ap (turns lay r before) (sym (paced-step r.last before run a given)))
 
--- a whole run does the turns of all that is taken, and then what comes behind them
+-- a whole run does the turns of everything that is taken, and then what follows them
 pub own-run : (lay : Layout) (r : Rules) (given : List Arrival) (tail : List Action) →
     own (node_from lay r [] 0 given ++ tail) ≡ own (turns lay r [] (taken_of r given) ++ tail)
 own-run lay r given tail =
@@ -112,7 +112,7 @@ module _ {X : Type 0} (gives : Action → List X) where
   own-gives none (append path bytes ∷ acts) = ap (λ xs. gives (append path bytes) ++ xs) (own-gives none acts)
   own-gives none (show bytes ∷ acts) = ap (λ xs. gives (show bytes) ++ xs) (own-gives none acts)
 
-  -- so do plans that are the same but for the link that is asked
+  -- plans that differ only in calls that ask the link give the same
   pub same-gives : ((came : Option Arrival) → gives (link (receive came)) ≡ []) → (xs ys : List Action) → own xs ≡ own ys →
       flat_map gives xs ≡ flat_map gives ys
   same-gives none xs ys e = own-gives none xs ∙ ap (flat_map gives) e ∙ sym (own-gives none ys)

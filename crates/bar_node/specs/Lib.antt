@@ -1,6 +1,3 @@
-pub mod Turns
-pub mod Counting
-pub mod Taking
+pub mod Code
 pub mod Runs
-pub mod Effects
 pub mod Stops

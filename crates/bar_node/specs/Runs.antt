@@ -10,21 +10,21 @@ use Rattle.bar_outside.specs.Wire.{Arrival, Datagram, End, Tick, Wire}
 use Rattle.bar_outside.specs.Plan.{Action, Begun, Outside, Ran, with_files, with_wire}
 use Rattle.bar_outside.specs.Plan.Action.{link}
 use Rattle.bar_outside.specs.Plan.LinkCall.{receive}
-use Rattle.bar_outside.specs.Follows.{Follows}
+use Rattle.bar_outside.specs.Code.Follows.{Follows}
 use Rattle.bar_outside.specs.declared.fault.Fault.{Fault}
 use Rattle.bar_findings.specs.Findings.{Finding, findings_actions, findings_of}
 use Rattle.bar_core.specs.Rules.{Rules}
 use Rattle.bar_core.specs.Runs.{contents_over, sends_over}
-use Rattle.bar_node.specs.Counting.{capped}
-use Rattle.bar_node.specs.Effects.{received_in}
-use Rattle.bar_node.specs.Taking.{Took}
-use Rattle.bar_node.specs.Turns.{Layout, kept, node_layout, replay_layout, turns}
+use Rattle.bar_node.specs.Code.Counting.{capped}
+use Rattle.bar_node.specs.Code.Effects.{received_in}
+use Rattle.bar_node.specs.Code.Taking.{Took}
+use Rattle.bar_node.specs.Code.Turns.{Layout, kept, node_layout, replay_layout, turns}
 use Rattle.bar_node.specs.declared.counts.Counts.{Counts}
 use Rattle.bar_node.specs.declared.summary.Summary.{Summary}
 
 -- ---- what a link gives
 
--- the input that an arrival is; the end is none
+-- the input that an arrival represents; the end represents none
 abbrev pub input_of : Arrival → Option Input
 input_of Tick = Some plain.Tick
 input_of (Datagram bytes) = Some (plain.Datagram bytes)
@@ -36,7 +36,7 @@ inputs_of (Tick ∷ arrivals) = plain.Tick ∷ inputs_of arrivals
 inputs_of (Datagram bytes ∷ arrivals) = plain.Datagram bytes ∷ inputs_of arrivals
 inputs_of (End ∷ arrivals) = inputs_of arrivals
 
--- what of it a link tells as taken
+-- the arrivals that a link reports as taken: all but the end
 abbrev pub heard : List Arrival → List Arrival
 heard [] = []
 heard (Tick ∷ arrivals) = Tick ∷ heard arrivals
@@ -53,13 +53,13 @@ has_end (End ∷ arrivals) = true
 abbrev pub taken_of : Rules → List Arrival → List Input
 taken_of r given = paced r.last (inputs_of given)
 
--- the run is at its end: the end was given, or the last tick was taken
+-- the run is at its end: the link gave its end, or the last tick was taken
 abbrev pub is_ended : Rules → List Arrival → Bool
 is_ended r given = has_end given || nat_le r.last (ticks_of (taken_of r given))
 
 -- ---- arrival by arrival
 
--- what is taken at an arrival, and how many datagrams then stand in a row
+-- what is taken at an arrival, and how many datagrams were then taken in a row
 abbrev pub due_if : ℕ → ℕ → ℕ → Option Input → List Input
 due_if last ticks run None = []
 due_if last ticks run (Some input) = due last ticks run input
@@ -68,7 +68,7 @@ abbrev pub run_if : ℕ → Option Input → ℕ
 run_if run None = run
 run_if run (Some input) = run_after run (is_datagram input)
 
--- what is done over some arrivals: each is received, and then come the turns of the inputs that are due
+-- the actions over some arrivals: each is received, and then the turns of the inputs that are due are done
 abbrev pub node_from : Layout → Rules → List Input → ℕ → List Arrival → List Action
 node_from lay r before run [] = []
 node_from lay r before run (a ∷ arrivals) =
@@ -78,19 +78,19 @@ node_from lay r before run (a ∷ arrivals) =
 
 -- ---- the plans
 
--- the turns over what a link gave; where the run isn't at its end, the link is asked once more
+-- the turns over what a link gave; if the run isn't at its end, the link is asked once more
 abbrev pub inputs_plan : Layout → Rules → List Arrival → List Action
 inputs_plan lay r given = node_from lay r [] 0 given ++ (if is_ended r given then [] else link (receive None) ∷ [])
 
--- what a core found behind these inputs, in files whose names begin with this word
+-- what a core found after these inputs, in files whose names begin with this prefix
 abbrev pub found_after : List ℕ → Rules → List Input → List Finding
 found_after found r taken = findings_of found (r.manifest taken) r.rounds (r.evidence taken) r.peers
 
--- the end of a recording, where one is kept, and then what was found
+-- the end of a recording, if one is kept, and then what was found
 abbrev pub closing : Option (List ℕ) → List ℕ → Rules → List Input → List Action
 closing recording found r taken = kept recording (0 ∷ []) ++ findings_actions (found_after found r taken)
 
--- what comes behind some arrivals: the closing where the run is at its end, and else the link is asked again
+-- what follows some arrivals: the closing if the run is at its end, and otherwise another call of the link
 abbrev pub behind : Option (List ℕ) → List ℕ → Rules → List Arrival → List Action
 behind recording found r given = if is_ended r given then closing recording found r (taken_of r given) else link (receive None) ∷ []
 
@@ -103,7 +103,7 @@ abbrev pub replay_plan : List ℕ → List ℕ → Rules → List Input → List
 replay_plan played found r inputs =
     turns (replay_layout played) r [] (paced r.last inputs) ++ findings_actions (found_after found r (paced r.last inputs))
 
--- how many ticks some inputs are, how many datagrams they send and how many bytes they play
+-- the numbers of ticks among some inputs, of datagrams that they send and of bytes that they play
 abbrev pub summary_of : Rules → List Input → Summary
 summary_of r inputs =
     record {
@@ -112,27 +112,28 @@ summary_of r inputs =
       played = capped (length (concat (contents_over r [] inputs)));
     }
 
--- ---- what is said of a node's run
+-- ---- properties of a node's run
 
--- The link isn't asked again once the run is at its end: before each arrival it wasn't.
+-- The link isn't asked again once the run is at its end: before each arrival the run wasn't at its end.
 abbrev pub AsksToTheEnd : Rules → List Arrival → Type 0
 AsksToTheEnd r given =
     (front : List Arrival) (next : Arrival) (rest : List Arrival) → given ≡ front ++ next ∷ rest → is_ended r front ≡ false
 
--- What a link gave: no datagram is larger than one can be, the link was asked up to the run's end and no further, and the inputs are few.
+-- What a link gave: no datagram exceeds the largest size, the link was asked up to the run's end and no further, and the number of inputs
+-- is bounded.
 pub record IsGiven (r : Rules) (given : List Arrival) : Type 0 where
   pub within : AllByRecursion IsInRange (inputs_of given)
   pub asked : AsksToTheEnd r given
   pub few : length (taken_of r given) ≤ (most_in_a_row + 1) * r.last
 
--- So much was done of a plan: a front of it, and maybe a part of the action behind it. What it received is exactly what the link gave.
+-- A plan was done in part: a prefix of it, and possibly a part of the next action. What was done received exactly what the link gave.
 pub record HasDone (plan : List Action) (given : List Arrival) (files files_new : Disk) (wire wire_new : Wire) : Type 0 where
   pub done : List Action
   pub begun : Begun plan done
   pub received : received_in done ≡ given
   pub ran : (w : Outside) → Ran done (with_wire (with_files w files) wire) (with_wire (with_files w files_new) wire_new)
 
--- What a link gave was taken: all of it, in order, up to the run's end or to a fault.
+-- Everything that a link gave was taken in order, up to the run's end or a fault.
 pub record RanInputs (lay : Layout) (now : List Input → Type 0) (r : Rules) (files files_new : Disk) (wire wire_new : Wire)
     (result : Result Counts Fault) : Type 0 where
   pub given : List Arrival
@@ -142,12 +143,12 @@ pub record RanInputs (lay : Layout) (now : List Input → Type 0) (r : Rules) (f
   -- whatever the result, what was done received exactly these arrivals
   pub did : HasDone (inputs_plan lay r given) given files files_new wire wire_new
   pub taken : wire_new.traffic.taken ≡ wire.traffic.taken ++ heard given
-  -- the link tells whether it gave its end
+  -- the link reports whether it gave its end
   pub told_end : wire_new.traffic.ended ≡ (wire.traffic.ended || has_end given)
   pub took : IfOk result (Took [] now r (taken_of r given))
   pub ended : OnOk result (IsTrue (is_ended r given))
 
--- A node's run: there is a list that the link gave, which is what it tells as taken, and the plan over this list was followed.
+-- A node's run: the link gave some list of arrivals, which it reports as taken, and the plan over this list was followed.
 pub record RanNode (recording played : Option (List ℕ)) (found : List ℕ) (r : Rules) (now : List Input → Type 0) (files files_new : Disk)
     (wire wire_new : Wire) (result : Result Summary Fault) : Type 0 where
   pub given : List Arrival
@@ -157,7 +158,7 @@ pub record RanNode (recording played : Option (List ℕ)) (found : List ℕ) (r 
   -- whatever the result, what was done received exactly these arrivals
   pub did : HasDone (node_plan recording played found r given) given files files_new wire wire_new
   pub taken : wire_new.traffic.taken ≡ wire.traffic.taken ++ heard given
-  -- the link tells whether it gave its end
+  -- the link reports whether it gave its end
   pub told_end : wire_new.traffic.ended ≡ (wire.traffic.ended || has_end given)
   pub stands : OnOk result (now (taken_of r given))
   pub ended : OnOk result (IsTrue (is_ended r given))

@@ -6,9 +6,9 @@ ghost use Rattle.bar_wire.specs.Limits.{largest_datagram};
 ghost use Rattle.bar_outside.specs.Disk.{Content};
 ghost use Rattle.bar_outside.specs.Wire.{arrival_of, largest_packet, len_of};
 ghost use Rattle.bar_record.specs.Recording.{IsInRange, largest_entry};
-ghost use Rattle.bar_core.specs.Face.{IsIdle};
-ghost use Rattle.bar_node.specs.Taking.{layout_of};
-ghost use Rattle.bar_node.specs.Turns.{sent};
+ghost use Rattle.bar_core.specs.Code.Face.{IsIdle};
+ghost use Rattle.bar_node.specs.Code.Taking.{layout_of};
+ghost use Rattle.bar_node.specs.Code.Turns.{sent};
 ghost use Rattle.bar_node.specs.Runs.{input_of, RanInputs};
 
 use crate::counts::Counts;
@@ -34,8 +34,8 @@ fn input_of(taken: Taken, inbox: &[u8]) -> Option<Input<'_>>
     }
 }
 
-/// Takes what a link gives, paced, up to its end or to the last tick, each input with its turn. The first buffer has room for the largest
-/// datagram, the second for its entry in a recording.
+/// Takes what a link gives, paced, up to its end or the last tick, and does the turn of each input. The first buffer has room for the
+/// largest datagram, the second for its entry in a recording.
 pub fn run_inputs<C: Core, L: Link, F: Files>(
     core: &mut C,
     link: &mut L,

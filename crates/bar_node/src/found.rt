@@ -1,9 +1,9 @@
-//! What a core found, written to files.
+//! Writing what a core found to files.
 ghost use Rattle.std.specs.Prelude.{List};
 ghost use Rattle.bar_wire.specs.Inputs as plain;
 ghost use Rattle.bar_outside.specs.Disk.{Content};
 ghost use Rattle.bar_outside.specs.Plan.{Outside, with_files};
-ghost use Rattle.bar_outside.specs.Follows.{Follows};
+ghost use Rattle.bar_outside.specs.Code.Follows.{Follows};
 ghost use Rattle.bar_findings.specs.Findings.{findings_actions};
 ghost use Rattle.bar_node.specs.Runs.{found_after};
 
@@ -12,7 +12,7 @@ use bar_findings::write_findings;
 use bar_outside::{Fault, Files};
 use std::alloc::Global;
 
-/// Writes the manifests that a core keeps, by round, and its evidence, by party. The word `found` begins the name of each file.
+/// Writes the manifests that a core keeps, by round, and its evidence, by party. The name of each file begins with `found`.
 pub fn write_found<C: Core, F: Files>(
     alloc: Global,
     core: &C,

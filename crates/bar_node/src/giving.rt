@@ -4,19 +4,19 @@ ghost use Rattle.std.specs.List.{concat, flat_map};
 ghost use Rattle.std.specs.Option.{option_copied};
 ghost use Rattle.bar_outside.specs.Disk.{Content};
 ghost use Rattle.bar_outside.specs.Plan.{Outside, with_files};
-ghost use Rattle.bar_outside.specs.Follows.{Follows};
+ghost use Rattle.bar_outside.specs.Code.Follows.{Follows};
 ghost use Rattle.bar_wire.specs.Inputs as plain;
 ghost use Rattle.bar_wire.specs.Limits.{largest_content, largest_datagram};
-ghost use Rattle.bar_core.specs.Face.{Keeps};
+ghost use Rattle.bar_core.specs.Code.Face.{Keeps};
 ghost use Rattle.bar_core.specs.Rules.{Send};
-ghost use Rattle.bar_node.specs.Turns.{kept};
-ghost use Rattle.bar_node.specs.Counting.{capped};
+ghost use Rattle.bar_node.specs.Code.Turns.{kept};
+ghost use Rattle.bar_node.specs.Code.Counting.{capped};
 
 use crate::outlet::Outlet;
 use bar_core::Core;
 use bar_outside::{Fault, Files, append_file};
 
-/// Adds bytes to a file, where one is kept.
+/// Appends bytes to a file, if one is kept.
 pub fn keep_bytes<F: Files>(files: &mut F, path: Option<&str>, bytes: &[u8]) -> Result<(), Fault>
     ensures { (w : Outside) (was : Content) → Follows (kept (option_copied path.entry) bytes.now)
         (with_files w (F.disk files.old was)) (with_files w (F.disk files.new was)) result }
@@ -27,7 +27,7 @@ pub fn keep_bytes<F: Files>(files: &mut F, path: Option<&str>, bytes: &[u8]) -> 
     }
 }
 
-/// Plays the contents of the last input that are still to be given out, and answers how many bytes they have.
+/// Plays the contents of the last input that are still to be given out, and returns how many bytes they have.
 pub fn play_all<C: Core, F: Files>(
     core: &mut C,
     files: &mut F,
@@ -52,7 +52,7 @@ pub fn play_all<C: Core, F: Files>(
     Ok(count)
 }
 
-/// Gives out the datagrams of the last input, which has this number, that are still to be given out, and answers how many they are.
+/// Gives out the remaining datagrams of the last input, which has this number, and returns how many there were.
 pub fn give_all<C: Core, T, O: Outlet<T>>(
     core: &mut C,
     number: u64,

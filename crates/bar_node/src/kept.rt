@@ -1,4 +1,4 @@
-/// The files that a run adds to: a peer's recording and what it plays, and neither at a broadcaster.
+/// The files to which a run appends: a peer's recording and its played file. A broadcaster has neither.
 #[derive(Clone, Copy, Debug)]
 pub struct Kept<'a> {
     pub recording: Option<&'a str>,

@@ -1,4 +1,4 @@
-//! What stands after a run over a link.
+//! What holds after a run over a link.
 ghost use Rattle.std.specs.Prelude.{◌≡◌, ◌++◌, ◌<◌, ◌^◌, [], ℕ, List, Option, Result, Some, Ok, Err, IsTrue};
 ghost use Rattle.bar_outside.specs.Disk.{Disk};
 ghost use Rattle.bar_outside.specs.Plan.{Outside, Ran, Touches};
@@ -12,7 +12,7 @@ ghost use Rattle.bar_node.specs.declared.summary.Summary.{Summary};
 
 use bar_core::Core;
 
-/// A run that ends has sent exactly what the list taken sends.
+/// A run that completes has sent exactly what the inputs taken send.
 pub fn a_run_sends<C: Core>()
     ensures { (recording played : Option (List ℕ)) (found : List ℕ) (r : Rules) (core : C) (files files_new : Disk)
         (wire wire_new : Wire) (summary : Summary) →
@@ -20,8 +20,8 @@ pub fn a_run_sends<C: Core>()
         wire_new.traffic.sent ≡ wire.traffic.sent ++ sends_over r [] (taken_of r ran.given) }
 {}
 
-/// A run that is stopped has sent what all inputs begun but the last one send, and a front of what the last one sends; at most one input
-/// that is due wasn't begun.
+/// A run that is stopped has sent what all begun inputs but the last send, and a prefix of what the last one sends. At most one due input
+/// wasn't begun.
 pub fn a_stopped_run_sent<C: Core>()
     ensures { (recording played : Option (List ℕ)) (found : List ℕ) (r : Rules) (core : C) (files files_new : Disk)
         (wire wire_new : Wire) (fault : Fault) →
@@ -29,7 +29,7 @@ pub fn a_stopped_run_sent<C: Core>()
         StoppedSending r ran.given wire wire_new }
 {}
 
-/// A peer that ends has sent and played all, and its recording is that of the list taken, with its end.
+/// A peer that completes has sent and played everything, and its recording contains the inputs taken and the end mark.
 pub fn a_peer_keeps<C: Core>()
     ensures { (recording played found : List ℕ) (r : Rules) (core : C) (files files_new : Disk) (wire wire_new : Wire)
         (summary : Summary) →
@@ -37,8 +37,8 @@ pub fn a_peer_keeps<C: Core>()
         AreApart recording played found → DonePeer recording played r ran.given files files_new wire wire_new }
 {}
 
-/// A peer that is stopped has sent, played and recorded all of the inputs begun but the last one, and a front of the last one's. What it
-/// sent is said whatever its files are, and what they have where their names differ.
+/// A peer that is stopped has sent, played and recorded everything for the begun inputs but the last, and a prefix of that for the last.
+/// The claim on what was sent holds for any files; the claims on files require that their names differ.
 pub fn a_stopped_peer_kept<C: Core>()
     ensures { (recording played found : List ℕ) (r : Rules) (core : C) (files files_new : Disk) (wire wire_new : Wire)
         (fault : Fault) →
@@ -46,7 +46,8 @@ pub fn a_stopped_peer_kept<C: Core>()
         StoppedPeer recording played found r ran.given files files_new wire wire_new }
 {}
 
-/// A run that ends has written what was found of the list taken, and changed no file but these, the recording and the played file.
+/// A run that completes has written what was found in the inputs taken. It changed no other file, except for the recording and the played
+/// file.
 pub fn a_run_writes_its_findings<C: Core>()
     ensures { (recording played : Option (List ℕ)) (found : List ℕ) (r : Rules) (core : C) (files files_new : Disk) (wire wire_new : Wire)
         (summary : Summary) →
@@ -54,7 +55,7 @@ pub fn a_run_writes_its_findings<C: Core>()
         r.peers < 2 ^ 64 → FoundBy recording played found r (taken_of r ran.given) files.content files_new.content }
 {}
 
-/// However a run ends, it changed no file but the recording, the played file and those of what was found.
+/// At every result, a run changed no file except the recording, the played file and the files of what was found.
 pub fn a_run_changes_its_files<C: Core>()
     ensures { (recording played : Option (List ℕ)) (found : List ℕ) (r : Rules) (core : C) (files files_new : Disk) (wire wire_new : Wire)
         (result : Result Summary Fault) →
@@ -65,43 +66,43 @@ pub fn a_run_changes_its_files<C: Core>()
 
 // ---- a run as a part of another plan
 
-/// A run that was done has sent exactly what the list taken sends.
+/// If a run was done, it has sent exactly what the inputs taken send.
 pub fn a_whole_run_sent()
     ensures { (recording played : Option (List ℕ)) (found : List ℕ) (r : Rules) (given : List Arrival) (old new : Outside) →
         Ran (node_plan recording played found r given) old new →
         new.wire.traffic.sent ≡ old.wire.traffic.sent ++ sends_over r [] (taken_of r given) }
 {}
 
-/// A peer's run that was done, up to its end, has sent and played all, and its recording is that of the list taken, with its end.
+/// If a peer's run was done up to its end, it has sent and played everything, and its recording contains the inputs taken and the end mark.
 pub fn a_whole_peer_kept()
     ensures { (recording played found : List ℕ) (r : Rules) (given : List Arrival) (old new : Outside) →
         Ran (node_plan (Some recording) (Some played) found r given) old new → IsTrue (is_ended r given) → AreApart recording played found →
         DonePeer recording played r given old.files new.files old.wire new.wire }
 {}
 
-/// A run that was done, up to its end, has written what was found of the list taken, and changed no file but these, the recording and the
-/// played file.
+/// If a run was done up to its end, it has written what was found in the inputs taken. It changed no other file, except for the recording
+/// and the played file.
 pub fn a_run_finds()
     ensures { (recording played : Option (List ℕ)) (found : List ℕ) (r : Rules) (given : List Arrival) (old new : Outside) →
         Ran (node_plan recording played found r given) old new → IsTrue (is_ended r given) → r.peers < 2 ^ 64 →
         FoundBy recording played found r (taken_of r given) old.files.content new.files.content }
 {}
 
-/// A run of which so much was done has sent what all inputs begun but the last one send, and a front of what the last one sends.
+/// If a run was done in part, it has sent what all begun inputs but the last send, and a prefix of what the last one sends.
 pub fn a_part_of_a_run_sent()
     ensures { (recording played : Option (List ℕ)) (found : List ℕ) (r : Rules) (given : List Arrival) (old new : Outside) →
         HasRun recording played found r given old new → StoppedSending r given old.wire new.wire }
 {}
 
-/// A peer's run of which so much was done has sent, played and recorded all of the inputs begun but the last one, and a front of the last
-/// one's.
+/// If a peer's run was done in part, it has sent, played and recorded everything for the begun inputs but the last, and a prefix of that
+/// for the last.
 pub fn a_part_of_a_peer_kept()
     ensures { (recording played found : List ℕ) (r : Rules) (given : List Arrival) (old new : Outside) →
         HasRun (Some recording) (Some played) found r given old new →
         StoppedPeer recording played found r given old.files new.files old.wire new.wire }
 {}
 
-/// A run creates and adds to no file but the recording, the played file and those of what was found.
+/// A run creates and appends to no file except the recording, the played file and the files of what was found.
 pub fn a_run_touches_its_files()
     ensures { (recording played : Option (List ℕ)) (found : List ℕ) (r : Rules) (given : List Arrival) (path : List ℕ) →
         IsOther recording played (found_after found r (taken_of r given)) path →

@@ -1,5 +1,5 @@
-/// The files of a peer's run: the played file and the recording, which are created and to which a run adds, and the word that begins the
-/// names of what it found.
+/// The files of a peer's run: the played file and the recording, which are created and appended to, and the prefix of the names of the
+/// files of what it found.
 #[derive(Clone, Copy, Debug)]
 pub struct Paths<'a> {
     pub played: &'a str,

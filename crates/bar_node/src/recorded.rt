@@ -2,14 +2,14 @@
 ghost use Rattle.std.specs.Prelude.{◌≡◌, ◌≤◌, [], length, IfOk, OnOk};
 ghost use Rattle.bar_outside.specs.Disk.{Content};
 ghost use Rattle.bar_outside.specs.Plan.{Outside, with_files, with_out};
-ghost use Rattle.bar_outside.specs.Follows.{Follows};
-ghost use Rattle.bar_record.specs.Inputs.{inputs_left};
+ghost use Rattle.bar_outside.specs.Code.Follows.{Follows};
+ghost use Rattle.bar_record.specs.Code.Inputs.{inputs_left};
 ghost use Rattle.bar_record.specs.Pacing.{paced};
 ghost use Rattle.bar_record.specs.Recording.{largest_entry};
-ghost use Rattle.bar_core.specs.Face.{IsIdle};
+ghost use Rattle.bar_core.specs.Code.Face.{IsIdle};
 ghost use Rattle.bar_node.specs.Runs.{replay_plan, summary_of};
-ghost use Rattle.bar_node.specs.Taking.{Took};
-ghost use Rattle.bar_node.specs.Turns.{replay_layout, turns};
+ghost use Rattle.bar_node.specs.Code.Taking.{Took};
+ghost use Rattle.bar_node.specs.Code.Turns.{replay_layout, turns};
 
 use crate::buffer::buffer;
 use crate::counts::Counts;
@@ -23,7 +23,7 @@ use bar_outside::{Fault, Files, Sink};
 use bar_record::{Items, LARGEST_ENTRY, Paced};
 use std::alloc::Global;
 
-/// Takes the inputs of a recording, paced, in order, each with its turn.
+/// Takes the inputs of a recording, paced, in order, and does the turn of each.
 fn show_inputs<C: Core, F: Files, K: Sink>(
     alloc: Global,
     core: &mut C,
@@ -70,12 +70,12 @@ fn show_inputs<C: Core, F: Files, K: Sink>(
     Ok(counts)
 }
 
-/// Runs a core that took nothing yet over a recording: what it plays goes into a file that is created, and what it sends is shown. What it
-/// found is written last.
+/// Runs a core that has taken no input over a recording. What it plays goes into a file that is created, and what it sends is shown. What
+/// it found is written last.
 ///
 /// # Errors
 ///
-/// `File` and `Output` where a call of the files or a write failed, and `NoMemory`.
+/// `File` and `Output` if a call of the files or a write failed, and `NoMemory`.
 pub fn replay<C: Core, F: Files, K: Sink>(
     alloc: Global,
     core: &mut C,

@@ -4,8 +4,8 @@ ghost use Rattle.std.specs.Option.{option_copied};
 ghost use Rattle.bar_wire.specs.Inputs as plain;
 ghost use Rattle.bar_outside.specs.Disk.{Content};
 ghost use Rattle.bar_outside.specs.Plan.{Outside, with_files};
-ghost use Rattle.bar_outside.specs.Follows.{Follows};
-ghost use Rattle.bar_core.specs.Face.{IsIdle};
+ghost use Rattle.bar_outside.specs.Code.Follows.{Follows};
+ghost use Rattle.bar_core.specs.Code.Face.{IsIdle};
 ghost use Rattle.bar_node.specs.Runs.{RanNode, closing};
 
 use crate::arrivals::run_inputs;
@@ -21,7 +21,7 @@ use bar_record::LARGEST_ENTRY;
 use bar_wire::LARGEST_DATAGRAM;
 use std::alloc::Global;
 
-/// Ends the recording, where one is kept, and writes what was found.
+/// Ends the recording, if one is kept, and writes what was found.
 fn close<C: Core, F: Files>(
     alloc: Global,
     core: &C,
@@ -37,7 +37,7 @@ fn close<C: Core, F: Files>(
     write_found(alloc, core, found, files)
 }
 
-/// Runs a core that took nothing yet over a link.
+/// Runs a core that has taken no input over a link.
 fn run_node<C: Core, L: Link, F: Files>(
     alloc: Global,
     core: &mut C,
@@ -63,13 +63,13 @@ fn run_node<C: Core, L: Link, F: Files>(
     })
 }
 
-/// Runs a peer that took nothing yet over a link that is bound, up to the link's end or to the last tick: what it takes is recorded before
-/// it is taken, what it plays goes into a file, and what it sends is sent. The played file is created, and the recording, with its head.
-/// What it found is written last.
+/// Runs a peer that has taken no input over a bound link, up to the link's end or the last tick. Each input is recorded before it is taken.
+/// What the peer plays goes into a file, and what it sends is sent over the link. The played file is created, and so is the recording, with
+/// its head. What it found is written last.
 ///
 /// # Errors
 ///
-/// `Link` and `File` where a call of the link or of the files failed, and `NoMemory`.
+/// `Link` and `File` if a call of the link or of the files failed, and `NoMemory`.
 pub fn run_peer<C: Core, L: Link, F: Files>(
     alloc: Global,
     core: &mut C,
@@ -90,8 +90,7 @@ pub fn run_peer<C: Core, L: Link, F: Files>(
     run_node(alloc, core, link, files, &kept, paths.found)
 }
 
-/// Runs a broadcaster that took nothing yet over a link that is bound, up to the link's end or to the last tick. What it found is written
-/// last.
+/// Runs a broadcaster that has taken no input over a bound link, up to the link's end or the last tick. What it found is written last.
 ///
 /// # Errors
 ///

@@ -2,14 +2,14 @@
 use crate::outlet::Outlet;
 use bar_outside::{Fault, Link, send_datagram};
 
-/// Datagrams are sent over a link.
+/// An outlet that sends datagrams over a link.
 #[derive(Clone, Copy)]
 pub struct Sending;
 
 impl<L: Link> Outlet<L> for Sending {
     ghost use Rattle.std.specs.Prelude.{refl};
     ghost use Rattle.bar_outside.specs.Plan.{with_wire};
-    ghost use Rattle.bar_node.specs.Turns.{sent};
+    ghost use Rattle.bar_node.specs.Code.Turns.{sent};
 
     ghost placed = { λ w link. with_wire w (L.wire link) };
 

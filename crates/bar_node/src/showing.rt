@@ -1,14 +1,14 @@
 //! Showing datagrams in a transcript.
 ghost use Rattle.std.specs.Prelude.{◌≡◌, IfOk, string_bytes};
 ghost use Rattle.bar_outside.specs.Plan.{Outside, with_out};
-ghost use Rattle.bar_outside.specs.Follows.{Follows};
-ghost use Rattle.bar_node.specs.Turns.{line_of_bytes, shown_line};
+ghost use Rattle.bar_outside.specs.Code.Follows.{Follows};
+ghost use Rattle.bar_node.specs.Code.Turns.{line_of_bytes, shown_line};
 
 use crate::outlet::Outlet;
 use bar_outside::{Fault, Sink, show_bytes};
 use std::alloc::{AllocError, Global};
 
-/// The line of a datagram that an input with this number sends to a receiver.
+/// The transcript line of a datagram that the input with this number sends to a receiver.
 fn line_of(alloc: Global, number: u64, to: u16, datagram: &[u8]) -> Result<String, AllocError>
     ensures { IfOk result (λ line. string_bytes line ≡ line_of_bytes number to datagram.now) }
 {
@@ -16,7 +16,7 @@ fn line_of(alloc: Global, number: u64, to: u16, datagram: &[u8]) -> Result<Strin
     format!(in alloc; "{number} {to} {datagram}\n")
 }
 
-/// Shows the line of a datagram that an input with this number sends to a receiver.
+/// Shows the transcript line of a datagram that the input with this number sends to a receiver.
 fn show_line<K: Sink>(
     alloc: Global,
     number: u64,
@@ -31,7 +31,7 @@ fn show_line<K: Sink>(
     show_bytes(out, line.as_bytes())
 }
 
-/// Datagrams are shown as the lines of a transcript.
+/// An outlet that shows datagrams as the lines of a transcript.
 #[derive(Clone, Copy)]
 pub struct Showing {
     pub alloc: Global,

@@ -1,4 +1,4 @@
-/// How many ticks a run took, how many datagrams it sent and how many bytes it played. The last two stay at 2^64 - 1 once they are there.
+/// How many ticks a run took, how many datagrams it sent and how many bytes it played. The last two saturate at 2^64 - 1.
 #[derive(Clone, Copy, Debug, PartialEq, Eq)]
 pub struct Summary {
     pub ticks: u32,

@@ -4,12 +4,12 @@ ghost use Rattle.std.specs.Option.{option_copied};
 ghost use Rattle.bar_wire.specs.Inputs as plain;
 ghost use Rattle.bar_outside.specs.Disk.{Content};
 ghost use Rattle.bar_outside.specs.Plan.{Outside, with_files};
-ghost use Rattle.bar_outside.specs.Follows.{Follows};
+ghost use Rattle.bar_outside.specs.Code.Follows.{Follows};
 ghost use Rattle.bar_record.specs.Recording.{entry_bytes, IsInRange, largest_entry};
 ghost use Rattle.bar_record.specs.Pacing.{due, is_datagram, run_after};
-ghost use Rattle.bar_core.specs.Face.{IsIdle};
-ghost use Rattle.bar_node.specs.Turns.{kept, turns};
-ghost use Rattle.bar_node.specs.Taking.{Took, layout_of};
+ghost use Rattle.bar_core.specs.Code.Face.{IsIdle};
+ghost use Rattle.bar_node.specs.Code.Turns.{kept, turns};
+ghost use Rattle.bar_node.specs.Code.Taking.{Took, layout_of};
 
 use crate::counts::Counts;
 use crate::giving::{give_all, play_all};
@@ -30,7 +30,7 @@ pub fn is_datagram(input: &Input<'_>) -> bool
     }
 }
 
-// Adds an input's entry to the recording, where one is kept.
+// Appends an input's entry to the recording, if one is kept.
 fn keep_entry<F: Files>(
     files: &mut F,
     recording: Option<&str>,
@@ -51,7 +51,7 @@ fn keep_entry<F: Files>(
     }
 }
 
-/// Takes an input with this number: its entry is kept, what it plays is kept, and what it sends is given out.
+/// Takes an input with this number: its entry is recorded, what it plays is appended to the played file, and what it sends is given out.
 fn take_input<C: Core, T, O: Outlet<T>, F: Files>(
     core: &mut C,
     input: Input<'_>,
@@ -84,7 +84,7 @@ fn take_input<C: Core, T, O: Outlet<T>, F: Files>(
     })
 }
 
-/// Takes an input behind so many others, with a tick before it where one is due. After the last tick nothing is taken.
+/// Takes an input after `taken` others, preceded by a tick if one is due. After the last tick nothing is taken.
 pub fn take_paced<C: Core, T, O: Outlet<T>, F: Files>(
     core: &mut C,
     input: Input<'_>,

@@ -4,7 +4,7 @@ use Rattle.std.specs.Str.{bytes_eq}
 use Rattle.std.proofs.lemmas.Slice.Eq.{bytes_eq-Decides}
 use Rattle.bar_outside.specs.Disk.{Content, CreatedFiles, Failure, with_file}
 use Rattle.bar_outside.specs.Wire.{Traffic}
-use Rattle.bar_outside.specs.Follows.{IsLater}
+use Rattle.bar_outside.specs.Code.Follows.{IsLater}
 use Rattle.bar_outside.specs.Plan.{Outside, Action, Ran, Begun, Reached, Names, CanRun, IsFilesNext, IsLinkNext, IsShowNext, IsPartOf, IsPartOfNext, content_after, content_by, created_after, created_by, shown, shown_by, traffic_after, traffic_by}
 use Rattle.bar_outside.specs.Plan.Action.{read, create, append, show, link}
 
@@ -21,7 +21,7 @@ pub traffic_after-append : (xs ys : List Action) (traffic : Traffic) →
 traffic_after-append [] ys traffic = refl
 traffic_after-append (x ∷ xs) ys traffic = traffic_after-append xs ys (traffic_by x traffic)
 
--- one run behind another
+-- two runs, one after the other
 pub Ran-append : (xs ys : List Action) (old mid new : Outside) → IsLater old mid → Ran xs old mid → Ran ys mid new → Ran (xs ++ ys) old new
 Ran-append xs ys old mid new later first second = record {
   files =
@@ -104,7 +104,7 @@ LinkNext-longer (create path ∷ others) more h = absurd h
 LinkNext-longer (append path bytes ∷ others) more h = absurd h
 LinkNext-longer (link call ∷ others) more h = tt
 
--- a longer plan was done as far
+-- if a plan was done in part, a longer plan was done just as far
 pub Reached-longer : (plan more : List Action) (status : ℕ) (old new : Outside) → Reached plan status old new → Reached (plan ++ more) status old new
 Reached-longer plan more status old new r = record {
   done = r.done;
@@ -115,7 +115,7 @@ Reached-longer plan more status old new r = record {
   at_output = λ e. ShowNext-longer r.begun.rest more (r.at_output e);
 }
 
--- one behind another
+-- a list of actions was done, and then a part of a plan
 pub Reached-behind : (front plan : List Action) (status : ℕ) (old mid new : Outside) → IsLater old mid → Ran front old mid →
     Reached plan status mid new →
     Reached (front ++ plan) status old new
@@ -128,7 +128,7 @@ Reached-behind front plan status old mid new later first r = record {
   at_output = r.at_output;
 }
 
--- all was done, and nothing failed
+-- everything was done, and no call failed
 pub Reached-whole : (plan : List Action) (status : ℕ) (old new : Outside) → (status ≡ 3 → ⊥) → (status ≡ 6 → ⊥) → (status ≡ 7 → ⊥) →
     Ran plan old new → Reached plan status old new
 Reached-whole plan status old new no_file no_link no_output ran = record {
@@ -153,7 +153,7 @@ Reached-nothing plan status old new files wire out ran = record {
   at_output = out;
 }
 
--- want of memory may come in place of any status
+-- running out of memory may replace any status
 pub Reached-memory : (plan : List Action) (status result : ℕ) (old new : Outside) → result ≡ 70 → Reached plan status old new → Reached plan result old new
 Reached-memory plan status result old new e r = record {
   done = r.done;
@@ -199,7 +199,7 @@ CanRun-rest (append path bytes ∷ others) rest here h = CanRun-rest others rest
 CanRun-rest (show bytes ∷ others) rest here h = CanRun-rest others rest here h
 CanRun-rest (link act ∷ others) rest here h = CanRun-rest others rest here h
 
--- each file of the first is one of the second
+-- each created file of the first is one of the second
 abbrev pub IsWithin : CreatedFiles → CreatedFiles → Type 0
 IsWithin here more = (path : List ℕ) → IsTrue (here path) → IsTrue (more path)
 
@@ -214,14 +214,14 @@ or-here false here h = h
 with-more : (here more : CreatedFiles) (path : List ℕ) → IsWithin here more → IsWithin (with_file here path) (with_file more path)
 with-more here more path within name h = or-more (bytes_eq path name) (here name) (more name) (within name) h
 
--- a file that is created is there then, and those that were created before it
+-- a file that is created counts as created afterwards, and so do those created before
 pub with_file-same : (here : CreatedFiles) (path : List ℕ) → IsTrue (with_file here path path)
 with_file-same here path = let same = (bytes_eq-Decides path path).1 refl in rw same refl
 
 pub with_file-others : (here : CreatedFiles) (path : List ℕ) → IsWithin here (with_file here path)
 with_file-others here path name h = or-here (bytes_eq path name) (here name) h
 
--- where more was created, what could be done can be done
+-- `CanRun` is monotone: if more files are created, the plan can still run
 pub CanRun-more : (plan : List Action) (here more : CreatedFiles) → IsWithin here more → CanRun plan here → CanRun plan more
 CanRun-more [] here more within h = tt
 CanRun-more (read path ∷ others) here more within h = CanRun-more others here more within h
@@ -231,7 +231,7 @@ CanRun-more (append path bytes ∷ others) here more within h = (within path h.0
 CanRun-more (show bytes ∷ others) here more within h = CanRun-more others here more within h
 CanRun-more (link act ∷ others) here more within h = CanRun-more others here more within h
 
--- and more is created behind it
+-- `created_after` is monotone
 pub created_after-more : (plan : List Action) (here more : CreatedFiles) → IsWithin here more →
     IsWithin (created_after plan here) (created_after plan more)
 created_after-more [] here more within = within
@@ -256,7 +256,7 @@ created-stays (append name bytes ∷ others) here path h = created-stays others 
 created-stays (show bytes ∷ others) here path h = created-stays others here path h
 created-stays (link act ∷ others) here path h = created-stays others here path h
 
--- what was done of a plan: nothing, a part of its first action, or the first action and then some of the rest
+-- what was done of a plan: nothing, a part of its first action, or the first action and then a part of the rest
 pub Begun-first : (first : Action) (plan done : List Action) (b : Begun (first ∷ plan) done) →
     ((done ≡ []) × (b.rest ≡ first ∷ plan))
     ⊎ (((part : Action) × (done ≡ part ∷ []) × IsPartOf part first × (b.rest ≡ first ∷ plan))
@@ -282,7 +282,7 @@ part-shorter x xs ys [] h = tt
 part-shorter x xs ys (a ∷ []) h = h
 part-shorter x xs ys (a ∷ b ∷ c) h = absurd h
 
--- what was done of two plans in order: some of the first, which has the next action too; or all of it, and some of the second
+-- what was done of two plans in order: a part of the first, which also contains the next action; or all of it, and a part of the second
 pub Begun-both : (xs ys done : List Action) (b : Begun (xs ++ ys) done) →
     ((first : Action) × (others : List Action) × (m : Begun xs done) × (m.rest ≡ first ∷ others) × (b.rest ≡ first ∷ (others ++ ys)))
     ⊎ ((more : List Action) × (done ≡ xs ++ more) × (m : Begun ys more) × (m.rest ≡ b.rest))
@@ -318,7 +318,7 @@ Begun-both xs ys done b = by_front xs ys done b.front b.part b.rest b.plan_is b.
           | inr m ↦ inr (m.0, all ∙ ap (λ l. x ∷ l) m.1, m.2, m.3)
         ]
 
--- whether the next action prints, or is one of the files or of the link, shows at that action
+-- the kind of the next action (on the files, of the link, or printing) depends only on that action
 pub files-next : (a : Action) (xs ys : List Action) → IsFilesNext (a ∷ xs) → IsFilesNext (a ∷ ys)
 files-next (read path) xs ys h = tt
 files-next (create path) xs ys h = tt
@@ -350,7 +350,7 @@ no-part-read (append p bytes) path h = h
 no-part-read (show bytes) path h = h
 no-part-read (link call) path h = h
 
--- a part of a create is the create
+-- a partial create is the whole create
 pub part-create : (part : Action) (path : List ℕ) → IsPartOf part (create path) → part ≡ create path
 part-create (read p) path h = absurd h
 part-create (create p) path h = ap create h
@@ -358,7 +358,7 @@ part-create (append p bytes) path h = absurd h
 part-create (show bytes) path h = absurd h
 part-create (link call) path h = absurd h
 
--- nothing is next in an empty plan
+-- an empty plan has no next action
 pub no-next : (done : List Action) (b : Begun [] done) → b.rest ≡ []
 no-next done b = by_front b.front b.rest b.plan_is
   where
@@ -366,7 +366,7 @@ no-next done b = by_front b.front b.rest b.plan_is
     by_front [] rest p = sym p
     by_front (x ∷ xs) rest p = absurd (nil-cons x (xs ++ rest) p)
 
--- nothing is done of an empty plan
+-- nothing of an empty plan is done
 pub Begun-none : (done : List Action) → Begun [] done → done ≡ []
 Begun-none done b = by_front done b.front b.part b.rest b.plan_is b.done_is b.part_is
   where
@@ -397,7 +397,7 @@ CanRun-append (append path bytes ∷ others) ys here h k = (h.0, CanRun-append o
 CanRun-append (show bytes ∷ others) ys here h k = CanRun-append others ys here h k
 CanRun-append (link act ∷ others) ys here h k = CanRun-append others ys here h k
 
--- how far two plans in order came: within the first; or behind it, and so far in the second
+-- how far two plans in order got: a part of the first, or all of it and a part of the second
 pub Reached-both : (xs ys : List Action) (status : ℕ) (old new : Outside) (d : Reached (xs ++ ys) status old new) →
     Reached xs status old new
     ⊎ ((more : List Action) × (d.done ≡ xs ++ more) × (m : Begun ys more) × (m.rest ≡ d.begun.rest))

@@ -15,7 +15,7 @@ pub can-appends : (path : List ℕ) (pieces : List (List ℕ)) (rest : List Acti
 can-appends path [] rest here made h = h
 can-appends path (x ∷ xs) rest here made h = (made, can-appends path xs rest here made h)
 
--- what the file has then, and the others
+-- the content of this file afterwards, and of the others
 pub appends-same : (path held : List ℕ) (pieces : List (List ℕ)) (content : Content) → content path ≡ Some held →
     content_after (map (append path) pieces) content path ≡ Some (held ++ concat pieces)
 appends-same path held [] content h = h ∙ ap Some (sym (append-nil held))
@@ -29,12 +29,12 @@ appends-other path [] content q differs = refl
 appends-other path (x ∷ xs) content q differs =
     appends-other path xs (appended content path x) q differs ∙ appended-other content path x q differs
 
--- what is appended isn't shown
+-- appends print nothing
 pub shown-appends : (path : List ℕ) (pieces : List (List ℕ)) → shown (map (append path) pieces) ≡ []
 shown-appends path [] = refl
 shown-appends path (x ∷ xs) = shown-appends path xs
 
--- no action of them prints
+-- none of these actions prints
 pub no-show : (path : List ℕ) (pieces : List (List ℕ)) (front rest : List Action) →
     map (append path) pieces ≡ front ++ rest → IsShowNext rest → ⊥
 no-show path [] [] rest p h = subst IsShowNext (sym p) h
@@ -42,7 +42,7 @@ no-show path (x ∷ xs) [] rest p h = subst IsShowNext (sym p) h
 no-show path [] (f ∷ fs) rest p h = nil-cons f (fs ++ rest) p
 no-show path (x ∷ xs) (f ∷ fs) rest p h = let q : map (append path) xs ≡ fs ++ rest = cc in no-show path xs fs rest q h
 
--- they touch the file alone, and each call is an append to it
+-- they touch only this file, and each call is an append to it
 pub touched-appends : (path : List ℕ) (pieces : List (List ℕ)) (rest : List Action) (q : List ℕ) →
     Touches (map (append path) pieces ++ rest) q → (q ≡ path) ⊎ Touches rest q
 touched-appends path [] rest q h = inr h
@@ -55,11 +55,11 @@ named-appends path [] rest call h = inr h
 named-appends path (x ∷ xs) rest call (inl e) = inl e
 named-appends path (x ∷ xs) rest call (inr h) = named-appends path xs rest call h
 
--- a front of what is there is a front of more
+-- a prefix of a list is a prefix of every extension of it
 pub take-more : (k : ℕ) (xs ys : List ℕ) → take (min k (length xs)) (xs ++ ys) ≡ take k xs
 take-more k xs ys = let h : min k (length xs) ≤ length xs = omega arith in rw (take-append-le (min k (length xs)) xs ys h) (take_min k xs)
 
--- what was done in part appends and prints nothing
+-- a partial append appends a prefix and prints nothing
 part-append : (part : Action) (path x held : List ℕ) (content : Content) → content path ≡ Some held → IsPartOf part (append path x) →
     (k : ℕ) × (content_after (part ∷ []) content path ≡ Some (held ++ take k x)) × (shown (part ∷ []) ≡ [])
 part-append (append q bytes) path x held content there h =
@@ -69,7 +69,7 @@ part-append (create q) path x held content there h = absurd h
 part-append (show bytes) path x held content there h = absurd h
 part-append (link call) path x held content there h = absurd h
 
--- what was done of them: a front of their bytes stands behind what was held
+-- what was done of the appends: a prefix of their bytes follows the old content
 pub begun-appends : (path held : List ℕ) (pieces : List (List ℕ)) (content : Content) (done : List Action) → content path ≡ Some held →
     Begun (map (append path) pieces) done →
     (k : ℕ) × (content_after done content path ≡ Some (held ++ take k (concat pieces))) × (shown done ≡ [])

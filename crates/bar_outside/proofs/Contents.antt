@@ -1,4 +1,4 @@
--- What files in memory hold after a change of their map.
+-- What in-memory files hold after a change of their map.
 use Rattle.std.proofs.Common.{◌≡◌, ℕ, List, ◌++◌, ◌||◌, ◌≢◌, [], append-nil, Bool, true, false, Option, None, Some, refl, sym, ◌∙◌, ap, cond, take, String, Result, Ok, Err, IfOk}
 use Rattle.std.specs.Option.{option_map, option_map_or}
 use Rattle.std.specs.Map.{update}
@@ -13,7 +13,7 @@ use Rattle.std.proofs.lemmas.Slice.Eq.{bytes_eq-Decides}
 use Rattle.std.proofs.lemmas.Bool.{false_from_ne_true}
 use mathlib.Core.Path.{fun_ext}
 use Rattle.bar_outside.specs.Disk.{Content, appended, put_at, with_file}
-use Rattle.bar_outside.specs.MemFiles.{content_of, created_in}
+use Rattle.bar_outside.specs.Code.MemFiles.{content_of, created_in}
 use Rattle.bar_outside.specs.declared.mem_file.MemFile.{MemFile}
 
 option_map-cond : {A B : Type 0} (f : A → B) (b : Bool) (x y : Option A) → option_map f (cond b x y) ≡ cond b (option_map f x) (option_map f y)
@@ -31,7 +31,7 @@ map_or-cond : {A B : Type 0} (f : A → B) (b : Bool) (x y : Option A) (d : B) �
 map_or-cond f true x y d = refl
 map_or-cond f false x y d = refl
 
--- which files are created then
+-- the created files after a change
 created_in-updates : (bs : List ℕ) (old new : BTreeMap (String Global) MemFile) (w : Option MemFile) →
     UpdatesBy string_cmp (λ k. slice_cmp nat_cmp bs (string_bytes k)) old new w →
     (cs : List ℕ) → created_in new cs ≡ cond (bytes_eq bs cs) (option_map_or (λ file. file.created) w false) (created_in old cs)
@@ -43,11 +43,11 @@ cond-same : {A : Type 0} (b : Bool) (x y : A) → (b ≡ true → x ≡ y) → c
 cond-same true x y h = h refl
 cond-same false x y h = refl
 
--- a change to what stands there
+-- an update with the value that is already there
 pub update-same : (content : Content) (bs : List ℕ) (w : Option (List ℕ)) → content bs ≡ w → update bytes_eq content bs w ≡ content
 update-same content bs w h = fun_ext (λ cs. cond-same (bytes_eq bs cs) w (content cs) (λ e. sym h ∙ ap content ((bytes_eq-Decides bs cs).0 e)))
 
--- a change to a file that is created as before
+-- an update that keeps whether the file was created
 pub created_in-same : (bs : List ℕ) (old new : BTreeMap (String Global) MemFile) (now : MemFile) →
     UpdatesBy string_cmp (λ k. slice_cmp nat_cmp bs (string_bytes k)) old new (Some now) → now.created ≡ created_in old bs →
     created_in new ≡ created_in old
@@ -78,12 +78,12 @@ option_map-same : {A : Type 0} (f : A → A) (o : Option A) → ((a : A) → f a
 option_map-same f None h = refl
 option_map-same f (Some a) h = ap Some (h a)
 
--- bytes are added to a file that is there
+-- bytes are appended to an existing file
 pub appended-there : (content : Content) (bs held : List ℕ) (piece : List ℕ) → content bs ≡ Some held → update bytes_eq content bs (Some (held ++ piece)) ≡ appended content bs piece
 unfolding appended
 appended-there content bs held piece h = ap (λ o. update bytes_eq content bs (option_map (λ xs. xs ++ piece) o)) (sym h)
 
--- after bytes were added behind what stood there
+-- after bytes were appended to the old content
 pub content_of-add : (bs piece : List ℕ) (old new : BTreeMap (String Global) MemFile) (was now : MemFile) →
     UpdatesBy string_cmp (λ k. slice_cmp nat_cmp bs (string_bytes k)) old new (Some now) →
     Some was ≡ get_by_text old bs → now.bytes.items ≡ was.bytes.items ++ piece →
@@ -108,17 +108,17 @@ at-name content path w = let same = (bytes_eq-Decides path path).1 refl in rw sa
 at-other : (content : Content) (path : List ℕ) (w : Option (List ℕ)) (q : List ℕ) → q ≢ path → update bytes_eq content path w q ≡ content q
 at-other content path w q differs = let other : bytes_eq path q ≡ false = false_from_ne_true (bytes_eq path q) (λ e. differs (sym ((bytes_eq-Decides path q).0 e))) in rw other
 
--- a file that was put is there, with its bytes
+-- a file that was put exists, with its bytes
 pub put_at-same : (content : Content) (path bytes : List ℕ) → put_at content path bytes path ≡ Some bytes
 unfolding put_at
 put_at-same content path bytes = at-name content path (Some bytes)
 
--- the others are as they were
+-- the other files are unchanged
 pub put_at-other : (content : Content) (path bytes q : List ℕ) → q ≢ path → put_at content path bytes q ≡ content q
 unfolding put_at
 put_at-other content path bytes q differs = at-other content path (Some bytes) q differs
 
--- a file that is there has the bytes added
+-- bytes are appended to an existing file
 pub appended-same : (content : Content) (path bytes held : List ℕ) → content path ≡ Some held → appended content path bytes path ≡ Some (held ++ bytes)
 unfolding appended
 appended-same content path bytes held h = at-name content path _ ∙ ap (option_map (λ xs. xs ++ bytes)) h
@@ -127,13 +127,13 @@ pub appended-other : (content : Content) (path bytes q : List ℕ) → q ≢ pat
 unfolding appended
 appended-other content path bytes q differs = at-other content path _ q differs
 
--- where nothing is added, all is as it was
+-- appending nothing changes nothing
 pub appended-nothing : (content : Content) (path : List ℕ) → appended content path [] ≡ content
 unfolding appended
 appended-nothing content path =
     update-same content path (option_map (λ held. held ++ []) (content path)) (sym (option_map-same (λ held. held ++ []) (content path) append-nil))
 
--- after nothing was added
+-- after nothing was appended
 pub content_of-left : (bs : List ℕ) (old new : BTreeMap (String Global) MemFile) (was now : MemFile) →
     UpdatesBy string_cmp (λ k. slice_cmp nat_cmp bs (string_bytes k)) old new (Some now) →
     Some was ≡ get_by_text old bs → now.bytes.items ≡ was.bytes.items → content_of new ≡ content_of old
@@ -146,7 +146,7 @@ pub created_in-left : (bs : List ℕ) (old new : BTreeMap (String Global) MemFil
 created_in-left bs old new was now h there same =
     created_in-same bs old new now h (same ∙ ap (λ (o : Option MemFile). option_map_or (λ file. file.created) o false) there)
 
--- what stands after bytes were to be added: a front of them behind what was there, and nothing where the file wasn't created in this run
+-- after an attempt to append bytes: a prefix of them was appended, and nothing if the file wasn't created in this run
 module _ {E : Type 0} (content new : Content) (here : Bool) (path bytes : List ℕ) (k : ℕ) where
   pub front-added : (r : Result Bool E) → (r ≡ Ok true → new ≡ appended content path (take k bytes)) → ((r ≡ Ok true → ⊥) → new ≡ content) →
       (n : ℕ) × (new ≡ appended content path (take n bytes))

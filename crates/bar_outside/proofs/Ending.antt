@@ -1,4 +1,4 @@
--- How a command ends whose actions were followed.
+-- How a command ends after its actions were followed.
 use Rattle.std.proofs.Common.{append-nil, Bool, ◌≡◌, ◌⊎◌, ℕ, List, [], ◌∷◌, ◌++◌, Option, Some, None, true, false, cond, refl, sym, ap, ◌∙◌, subst, IsTrue, IsSomeAnd, Vec, Result, Ok, Err, inl, inr, arith, take, ◌||◌, ◌==◌}
 use Rattle.bar_outside.specs.Disk.{Disk, Content, Failure, Reads, readable}
 use Rattle.bar_outside.specs.Stream.{Stream}
@@ -7,12 +7,12 @@ use Rattle.std.proofs.lemmas.Bool.{eqb-true}
 use Rattle.bar_outside.specs.declared.files.CallKind.TheVariants.{Read}
 use Rattle.bar_outside.specs.declared.files.FileFault.{FileFault}
 use Rattle.bar_outside.specs.declared.files.FileFault.TheVariants as file
-use Rattle.bar_outside.specs.Faults.{fault_of_file, code_of_fault, line_of_fault, code_after, line_after}
+use Rattle.bar_outside.specs.Code.Faults.{fault_of_file, code_of_fault, line_of_fault, code_after, line_after}
 use Rattle.bar_outside.specs.declared.fault.Fault.{Fault}
 use Rattle.bar_outside.specs.declared.fault.Fault.TheVariants.{File, Link, Output, NoMemory}
 use Rattle.bar_outside.specs.Plan.{Outside, with_files, Action, Plan, reading, read_then, before, accepting, ending, doing, is_stop, line_at, no_memory, Ran, Reached, Names, CanRun, IsFilesNext, ReadsNone}
 use Rattle.bar_outside.specs.Plan.Action.{read}
-use Rattle.bar_outside.specs.Follows.{IsLater, Follows}
+use Rattle.bar_outside.specs.Code.Follows.{IsLater, Follows}
 use Rattle.bar_outside.specs.Ends.{Ends, Carried, EndsWith, IsFixed, Prints, Says, is_plain}
 use Rattle.bar_outside.proofs.ActionLists.{Reached-whole, Reached-behind, Reached-nothing, Reached-memory, Ran-append}
 use Rattle.bar_outside.proofs.Following.{true-not_false, Ran-nothing, IsLater-trans, later-same, later-files, named-behind}
@@ -46,7 +46,7 @@ Ends-ending status line old go = record {
   complete = λ reliable told. inl refl;
 }
 
--- actions, and then the end
+-- actions are done, and then the command ends
 module _ (actions : List Action) (final : ℕ) (line : List ℕ) (old new : Outside)
     (can : CanRun actions old.files.created_here) (go : is_stop final ≡ false) where
   pub Ends-doing : {T : Type 0} (r : Result T Fault) → Follows actions old new r → Ends (doing actions final line) old new (code_after final r)
@@ -117,11 +117,11 @@ begun-read : (path : List ℕ) (others : List ℕ → Content → Plan) (content
 begun-read path others content None = ([], refl)
 begun-read path others content (Some bytes) = ((others bytes content).actions, refl)
 
--- a plan that reads a file goes by what it holds
+-- a plan that reads a file isn't fixed
 never-fixed : (path : List ℕ) (others : List ℕ → Content → Plan) (content : Content) → IsFixed (reading path others) content → ⊥
 never-fixed path others content is = let b = begun-read path others content (readable content path) in subst ReadsNone b.1 is.unread
 
--- a file that was read, and what came after it
+-- a file was read, and the rest ended
 module _ (path : List ℕ) (others : List ℕ → Content → Plan) (old mid : Disk) (w new : Outside) (bytes : Vec ℕ Global) (status : ℕ)
     (reads : Reads path old mid (Ok bytes)) (ends : Ends (others bytes.items) (with_files w mid) new status) where
   plan-is : IsTrue mid.told → reading path others old.content ≡ before (read path) (others bytes.items mid.content)
@@ -172,7 +172,7 @@ module _ (path : List ℕ) (others : List ℕ → Content → Plan) (old mid : D
         }) told);
   }
 
--- a file that wasn't read
+-- a read failed
 module _ (path : List ℕ) (others : List ℕ → Content → Plan) (old mid : Disk) (w : Outside) where
   unread-next : IsFilesNext (reading path others old.content).actions
   unread-next = let b = begun-read path others old.content (readable old.content path) in subst IsFilesNext (sym b.1) tt
@@ -213,7 +213,7 @@ module _ (path : List ℕ) (others : List ℕ → Content → Plan) (old mid : D
     complete = λ reliable told. inr refl;
   }
 
--- want of memory may come in place of any status
+-- running out of memory may replace any status
 pub Ends-or_memory : (plan : Content → Plan) (old new : Outside) (status result : ℕ) → (result ≡ status) ⊎ (result ≡ 70) → Ends plan old new status → Ends plan old new result
 Ends-or_memory plan old new status result (inl e) h = subst (Ends plan old new) (sym e) h
 Ends-or_memory plan old new status result (inr e) h = record {
@@ -236,7 +236,7 @@ else-cases false false true d x y z u p h = absurd (true-not_false h)
 else-cases false false false true x y z u p h = absurd (true-not_false h)
 else-cases false false false false x y z u p h = refl
 
--- any other line is the plan's
+-- at any other status the line is the plan's
 pub line_at-else : (plan : Plan) (status : ℕ) → is_stop status ≡ false → line_at plan status ≡ plan.line
 line_at-else plan status h = else-cases (status == 3) (status == 6) (status == 7) (status == 70) _ _ _ _ plan.line h
 
@@ -248,7 +248,7 @@ line-cases false false true d x y z u p q h = refl
 line-cases false false false true x y z u p q h = refl
 line-cases false false false false x y z u p q h = absurd (true-not_false (sym h))
 
--- the line of a stop is that of any plan
+-- the line of a stop doesn't depend on the plan
 line_at-stop : (p q : Plan) (status : ℕ) → is_stop status ≡ true → line_at p status ≡ line_at q status
 line_at-stop p q status h = line-cases (status == 3) (status == 6) (status == 7) (status == 70) _ _ _ _ p.line q.line h
 
@@ -260,7 +260,7 @@ EndsWith-ending status line old go = record {
   fixed_line = λ is. sym (line_at-else (ending status line old.files.content) status go);
 }
 
--- actions, and then the end
+-- actions are done, and then the command ends
 pub EndsWith-doing : {T : Type 0} (actions : List Action) (final : ℕ) (line : List ℕ) (old new : Outside) →
     CanRun actions old.files.created_here → is_stop final ≡ false → (r : Result T Fault) → Follows actions old new r →
     EndsWith (doing actions final line) old new (code_after final r) (line_after line r)
@@ -301,7 +301,7 @@ pub or-stop : (told stop : Bool) → stop ≡ true → IsTrue (told || stop)
 or-stop true stop h = refl
 or-stop false stop h = h
 
--- a file that was read, and what came after it
+-- a file was read, and the rest ended
 pub EndsWith-reading : (path : List ℕ) (others : List ℕ → Content → Plan) (old mid : Disk) (w new : Outside) (bytes : Vec ℕ Global)
     (status : ℕ) (line : List ℕ) →
     Reads path old mid (Ok bytes) → EndsWith (others bytes.items) (with_files w mid) new status line →
@@ -318,7 +318,7 @@ EndsWith-reading path others old mid w new bytes status line reads h = record {
   fixed_line = λ is. absurd (never-fixed path others old.content is);
 }
 
--- a file that wasn't read
+-- a read failed
 pub EndsWith-unread : (path : List ℕ) (others : List ℕ → Content → Plan) (old mid : Disk) (w : Outside) (cause : FileFault) →
     Reads path old mid (Err cause) →
     EndsWith (reading path others) (with_files w old) (with_files w mid) (code_of_fault (fault_of_file cause))
@@ -334,7 +334,7 @@ EndsWith-unread path others old mid w file.NoMemory reads = record {
   fixed_line = λ is. absurd (never-fixed path others old.content is);
 }
 
--- what was read stands for something
+-- what was read is accepted
 pub EndsWith-accepted : {A E : Type 0} (r : Result A E) (meant : A) (others : A → Content → Plan) (refused : E → Content → Plan) (old new : Outside) (status : ℕ) (line : List ℕ) →
     r ≡ Ok meant → EndsWith (others meant) old new status line → EndsWith (accepting r others refused) old new status line
 EndsWith-accepted r meant others refused old new status line e h = subst (λ x. EndsWith (accepting x others refused) old new status line) (sym e) h
@@ -344,7 +344,7 @@ pub EndsWith-refused : {A E : Type 0} (r : Result A E) (fault : E) (others : A �
     r ≡ Err fault → EndsWith (refused fault) old new status line → EndsWith (accepting r others refused) old new status line
 EndsWith-refused r fault others refused old new status line e h = subst (λ x. EndsWith (accepting x others refused) old new status line) (sym e) h
 
--- memory was wanting before anything more was done
+-- memory ran out before anything more was done
 pub EndsWith-memory : (plan : Content → Plan) (old : Outside) → EndsWith plan old old 70 no_memory
 EndsWith-memory plan old = record {
   ends = record {
@@ -380,7 +380,7 @@ plain-cases status h = by_tests (status == 2) (status == 3) (status == 6) (statu
 plain-memory : (status : ℕ) → is_plain status ≡ true → status ≡ 70 → ⊥
 plain-memory status h e = let k : is_plain 70 ≡ true = subst (λ n. is_plain n ≡ true) e h in cc
 
--- what err has of it, where the line of the end was printed
+-- what was printed on standard error, if the line of the end was printed
 module _ (plan : Content → Plan) (old new : Outside) (status result : ℕ) (line : List ℕ) (before_err after_err : Stream)
     (h : EndsWith plan old new status line) (prints : Prints line result before_err after_err) (usage : status ≡ 2 → line ≡ (plan old.files.content).line) where
   said-same : result ≡ status → line ≡ line_at (plan old.files.content) result → Says (plan old.files.content) result before_err after_err
@@ -417,7 +417,7 @@ module _ (plan : Content → Plan) (old new : Outside) (status result : ℕ) (li
         | inr plain ↦ absurd (plain-memory result plain e)
       ]
 
-  -- so it is, whatever the files tell, where the plan doesn't go by them
+  -- if the plan is fixed, this holds even if the reads disagree with the content
   pub said-fixed : (result ≡ status) ⊎ (result ≡ 70) → IsFixed plan old.files.content → Says (plan old.files.content) result before_err after_err
   said-fixed (inl e) is = said-same e (h.fixed_line is ∙ ap (line_at (plan old.files.content)) (sym e))
   said-fixed (inr e) is = said-memory e (h.fixed_line is)

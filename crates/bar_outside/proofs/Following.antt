@@ -1,6 +1,6 @@
--- Functions that do lists of actions, one after another.
+-- Functions that carry out lists of actions, one after the other.
 use Rattle.std.proofs.Common.{◌≡◌, ◌≤◌, ℕ, List, [], ◌∷◌, ◌++◌, true, false, ◌⊎◌, append-nil, Option, Some, None, refl, sym, ap, ◌∙◌, subst, IsTrue, IsSomeAnd, Result, Ok, Err, IsErrOf, inl, inr, arith, take}
-use Rattle.bar_outside.specs.Causes.{Rose}
+use Rattle.bar_outside.specs.Code.Causes.{Rose}
 use Rattle.bar_outside.specs.Disk.{Disk, CreatedFiles, Failure, Appends, Creates, created, appended}
 use Rattle.bar_outside.specs.Stream.{Stream, Writes}
 use Rattle.bar_outside.specs.Wire.{Wire, Traffic, Acts}
@@ -12,10 +12,10 @@ use Rattle.bar_outside.specs.declared.link.LinkFault.{LinkFault}
 use Rattle.bar_outside.specs.declared.link.LinkFault.TheVariants as wire
 use Rattle.bar_outside.specs.declared.fault.Fault.{Fault}
 use Rattle.bar_outside.specs.declared.fault.Fault.TheVariants.{File, Link, Output, NoMemory}
-use Rattle.bar_outside.specs.Faults.{fault_of_file, fault_of_sink, fault_of_link, code_of_fault}
+use Rattle.bar_outside.specs.Code.Faults.{fault_of_file, fault_of_sink, fault_of_link, code_of_fault}
 use Rattle.bar_outside.specs.Plan.{Outside, with_files, with_out, with_wire, Action, LinkCall, Ran, Reached, Names, CanRun, created_after}
 use Rattle.bar_outside.specs.Plan.Action.{create, append, show, link}
-use Rattle.bar_outside.specs.Follows.{HasCreated, IsLater, IsReliable, FilesFailed, Follows}
+use Rattle.bar_outside.specs.Code.Follows.{HasCreated, IsLater, IsReliable, FilesFailed, Follows}
 use Rattle.bar_outside.proofs.ActionLists.{Ran-append, Reached-behind, Reached-longer, Reached-nothing, Names-longer, Names-behind, CanRun-front, CanRun-more, CanRun-rest, created_after-append, created_after-more}
 
 pub IsLater-trans : (old mid new : Outside) → IsLater old mid → IsLater mid new → IsLater old new
@@ -83,7 +83,7 @@ module _ {S : Type 0} (front plan : List Action) (old mid new : Outside) (x : S)
   output-then : {T : Type 0} {r : Result T Fault} → Follows plan mid new r → IsErrOf r Output → Rose old.out.faults new.out.faults
   output-then second e = let before = first.later.out_faults in let rose = second.output e in omega arith
 
-  -- one list of actions behind another
+  -- one list of actions after another
   pub followed : {T : Type 0} (r : Result T Fault) → Follows plan mid new r → Follows (front ++ plan) old new r
   followed (Ok y) second = record {
     later = IsLater-trans old mid new first.later second.later;
@@ -176,7 +176,7 @@ nothing_done old = record {
   complete = λ reliable can. tt;
 }
 
--- nothing was done, for want of memory
+-- nothing was done, because memory ran out
 pub no_memory : {T : Type 0} (plan : List Action) (old : Outside) → Follows {T = T} plan old old (Err NoMemory)
 no_memory plan old = record {
   later = later-same old;
@@ -191,7 +191,7 @@ no_memory plan old = record {
   complete = λ reliable can. refl;
 }
 
--- the answer of what was done may be another value
+-- the result after success may be replaced by another value
 pub answered : {S T : Type 0} (plan : List Action) (old new : Outside) (x : S) (y : T) → Follows plan old new (Ok x) →
     Follows plan old new (Ok y)
 answered plan old new x y f = record {
@@ -212,7 +212,7 @@ same-stop : {S T : Type 0} (fault other : Fault) → IsErrOf (let r : Result T F
     IsErrOf (let r : Result S Fault = Err fault in r) other
 same-stop fault other e = ap (λ (x : Fault). Err x) (same-fault fault other e)
 
--- a fault is handed on
+-- a fault is passed on
 pub handed : {S T : Type 0} (plan : List Action) (old new : Outside) (fault : Fault) → Follows {T = S} plan old new (Err fault) →
     Follows {T = T} plan old new (Err fault)
 handed plan old new fault f = record {
@@ -355,7 +355,7 @@ failed_write piece w old new sink.NoMemory a = record {
   complete = λ reliable can. refl;
 }
 
--- a call of the link that failed, which did nothing
+-- a call of the link that failed, and had no effect
 pub failed_call : {S T : Type 0} (call : LinkCall) (change : Traffic → Traffic) (w : Outside) (old new : Wire) (e : LinkFault) →
     Acts {T = S} change old new (Err e) → Follows {T = T} (link call ∷ []) (with_wire w old) (with_wire w new) (Err (fault_of_link e))
 failed_call call change w old new wire.Failed a = record {

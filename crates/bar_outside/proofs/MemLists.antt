@@ -1,4 +1,4 @@
--- What a link in memory gives next.
+-- What an in-memory link gives next.
 use Rattle.std.proofs.Common.{◌≡◌, ◌≤◌, ◌<◌, ℕ, true, nat_le, List, length, get_or, sym, ap, ◌∙◌, inl, inr, arith, Vec, true≢false}
 use Rattle.std.specs.List.{slice_get}
 use Rattle.std.specs.declared.alloc.Global.{Global}
@@ -6,8 +6,8 @@ use Rattle.std.proofs.lemmas.Option.{slice_get-get_or}
 use Rattle.std.proofs.lemmas.List.Folds.{list_all_at}
 use Rattle.std.proofs.lemmas.Bool.{cases_Bool}
 use Rattle.std.proofs.lemmas.Bool.Decides.{nat_tests}
-use Rattle.bar_outside.specs.MemTaken.{is_small, are_small, arrival_in}
-use Rattle.bar_outside.specs.MemLink.{arrival_at}
+use Rattle.bar_outside.specs.Code.MemTaken.{is_small, are_small, arrival_in}
+use Rattle.bar_outside.specs.Code.MemLink.{arrival_at}
 use Rattle.bar_outside.specs.declared.mem_taken.MemTaken.{MemTaken}
 use Rattle.bar_outside.specs.declared.mem_taken.MemTaken.TheVariants.{Datagram}
 

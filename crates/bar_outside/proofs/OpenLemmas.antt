@@ -1,10 +1,10 @@
--- Children that a spawner has started, and those that aren't waited for.
+-- The children that a spawner has started, and those that haven't been waited for.
 use Rattle.std.proofs.Common.{◌≡◌, ◌≤◌, ◌<◌, ◌+◌, ◌∙◌, ◌++◌, ◌∷◌, ◌==◌, ◌||◌, ◌&&◌, [], ℕ, zero, suc, ℤ, Bool, true, false, List, Option, nat_lt, if◌then◌else◌, refl, sym, ap, subst, inl, inr, arith}
 use Rattle.std.proofs.lemmas.List.Folds.{list_any-append}
 use Rattle.std.proofs.lemmas.Bool.{cases_Bool, and_from, ltb-true, or_from, or_left, or_parts, or_right}
 use Rattle.std.proofs.lemmas.Bool.Decides.{nat_tests}
-use Rattle.bar_outside.specs.Children.{ChildCall, IsRunning, Started, Waited, child_of, is_named, is_started, is_waited, starts, waits}
-use Rattle.bar_outside.specs.OpenChildren.{are_below, open_below}
+use Rattle.bar_outside.specs.Code.Children.{ChildCall, IsRunning, Started, Waited, child_of, is_named, is_started, is_waited, starts, waits}
+use Rattle.bar_outside.specs.Code.OpenChildren.{are_below, open_below}
 
 -- ---- tests
 
@@ -39,7 +39,7 @@ is-other a b h = grind (arith, nat_tests)
 is-before : (a b : ℕ) → a < suc b → (a == b) ≡ false → a < b
 is-before a b h k = grind (arith, nat_tests)
 
--- ---- a call more
+-- ---- one more call
 
 waited-started : (k : ℕ) (calls : List ChildCall) (words : List (List ℕ)) (child : ℕ) →
     is_waited k (calls ++ Started words child ∷ []) ≡ is_waited k calls
@@ -56,7 +56,7 @@ few-flag : (b : Bool) (m n : ℕ) → m ≤ n → (if b then 0 else 1) + m ≤ s
 few-flag true m n h = omega (arith, h)
 few-flag false m n h = omega (arith, h)
 
--- at most as many as there are
+-- at most as many as there are children
 pub open-few : (n : ℕ) (calls : List ChildCall) → open_below n calls ≤ n
 open-few zero calls = omega arith
 open-few (suc n) calls = few-flag (is_waited n calls) (open_below n calls) n (open-few n calls)
@@ -93,7 +93,7 @@ past-flag false true m n h l = absurd (true-false h)
     true-false : true ≡ false → ⊥
     true-false e = cc
 
--- one less, where an open one is waited for
+-- one less, if an open child is waited for
 pub open-waited : (n : ℕ) (calls : List ChildCall) (child : ℕ) (status : Option ℤ) → child < n → is_waited child calls ≡ false →
     open_below n (calls ++ Waited child status ∷ []) + 1 ≤ open_below n calls
 open-waited zero calls child status below unwaited = absurd (omega (arith, below))
@@ -121,7 +121,7 @@ below-more n m (call ∷ calls) h below =
     and_from (nat_lt (child_of call) m) (are_below m calls) (to-below (child_of call) m (omega (arith, h, first)))
     (below-more n m calls h (and-right (nat_lt (child_of call) n) _ below))
 
--- a call of a child below
+-- one more call, of a child below the bound
 pub below-call : (n m : ℕ) (calls : List ChildCall) (call : ChildCall) → n ≤ m → child_of call < m → are_below n calls ≡ true →
     are_below m (calls ++ call ∷ []) ≡ true
 below-call n m [] call h last below = and_from (nat_lt (child_of call) m) true (to-below (child_of call) m last) refl
@@ -138,7 +138,7 @@ next-new n (call ∷ calls) below =
     (is-other (child_of call) n (ltb-true (child_of call) n (and-left _ (are_below n calls) below)))
     (next-new n calls (and-right (nat_lt (child_of call) n) _ below))
 
--- a child that was started is below
+-- a child that was started is below the bound
 pub started-below : (n : ℕ) (calls : List ChildCall) (child : ℕ) → are_below n calls ≡ true → is_started child calls ≡ true → child < n
 started-below n [] child below started = absurd (false-true started)
   where
@@ -160,7 +160,7 @@ started-below n (Started words other ∷ calls) child below started = elim (case
 
 -- ---- a child that is started
 
--- a child that no call names isn't waited for
+-- a child that no call names hasn't been waited for
 not-waited : (calls : List ChildCall) (child : ℕ) → is_named child calls ≡ false → is_waited child calls ≡ false
 not-waited [] child h = refl
 not-waited (Started words other ∷ calls) child h =

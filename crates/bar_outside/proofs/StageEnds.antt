@@ -7,7 +7,7 @@ use Rattle.bar_outside.specs.Plan.{Outside, Plan, is_stop, no_memory, with_files
 use Rattle.bar_outside.specs.Stages.{Stages, accepts, plan_by, refuses, stage}
 use Rattle.bar_outside.proofs.Ending.{EndsWith-ending, EndsWith-memory, EndsWith-reading}
 
--- what was read is accepted, and the others ended so; or it is refused
+-- what was read is accepted, and the following stages ended like this; or it is refused
 module _ {A E : Type 0} (r : Result A E) (others : A → Stages) (refused : E → Stages) (old new : Outside) (code : ℕ) (said : List ℕ) where
   pub EndsWith-accepts : (meant : A) → r ≡ Ok meant → EndsWith (plan_by (others meant)) old new code said →
       EndsWith (plan_by (accepts r others refused)) old new code said
@@ -23,7 +23,7 @@ module _ {A E : Type 0} (path : List ℕ) (meaning : List ℕ → Result A E) (s
   abbrev by-meaning : Result A E → Content → Plan
   by-meaning r = plan_by (accepts r others (λ fault. refuses status (line fault)))
 
-  -- what was read means this, and the others ended so
+  -- what was read has this meaning, and the following stages ended like this
   pub EndsWith-stage : (meant : A) (new : Outside) (code : ℕ) (said : List ℕ) → meaning bytes.items ≡ Ok meant →
       EndsWith (plan_by (others meant)) (with_files w mid) new code said →
       EndsWith (plan_by (stage path meaning status line others)) (with_files w old) new code said
@@ -39,7 +39,7 @@ module _ {A E : Type 0} (path : List ℕ) (meaning : List ℕ → Result A E) (s
       (subst (λ r. EndsWith (by-meaning r) (with_files w mid) (with_files w mid) status (line fault)) (sym is)
       (EndsWith-ending status (line fault) (with_files w mid) go))
 
-  -- memory was wanting for what it means
+  -- memory ran out while the meaning was computed
   pub EndsWith-stage_memory :
       EndsWith (plan_by (stage path meaning status line others)) (with_files w old) (with_files w mid) 70 no_memory
   EndsWith-stage_memory =

@@ -1,4 +1,4 @@
--- What is told of a command by the ends to which its stages come.
+-- How a command ends, by the ends to which its stages lead.
 use Rattle.std.proofs.Common.{◌≡◌, ◌⊎◌, ℕ, Bool, true, false, List, [], Option, None, Some, Result, Ok, Err, IsTrue, IsSomeAnd, refl, sym, ap, ◌∙◌, subst, inl, inr, true≢false}
 use Rattle.bar_outside.specs.Disk.{Content, Failure, readable}
 use Rattle.bar_outside.specs.declared.files.CallKind.TheVariants.{Read}
@@ -8,18 +8,18 @@ use Rattle.bar_outside.specs.Stages.Stages.{reads, does}
 use Rattle.bar_outside.proofs.Stages.{comes-accepts, comes-stage, each-call, each-stage, ends_there}
 use Rattle.bar_outside.proofs.Unlinked.{IsUnlinked, unlinked-reading}
 
--- nothing is done, and the command ends so
+-- nothing is done, and the command ends with this status and line
 abbrev pub refusal : ℕ → List ℕ → Plan
 refusal status line = record { actions = []; status = status; line = line }
 
 -- ---- the calls that a command makes
 
--- each call of this end is one of these, and none is one of the link
+-- each call of this end satisfies C, and none is a call of the link
 pub record IsEndWithin (C : Failure → Type 0) (end : Plan) : Type 0 where
   pub unlinked : IsUnlinked end.actions
   pub calls : (call : Failure) → Names end.actions call → C call
 
--- so is each call of these stages
+-- the same for each call of these stages
 abbrev pub IsWithin : (Failure → Type 0) → Stages → Type 0
 IsWithin C stages = EachStage (λ path. C (record { kind = Read; path = path })) (IsEndWithin C) stages
 
@@ -48,18 +48,18 @@ unlinked-within C (does end) content h = h.unlinked
 unlinked-within C (reads path others) content h =
     unlinked-reading path (λ bytes. plan_by (others bytes)) content (λ bytes. unlinked-within C (others bytes) content (h.1 bytes))
 
--- what was read is accepted, and the others come to this end
+-- if what was read is accepted and the following stages lead to this end, so do these
 pub accepted-comes : {A E : Type 0} (r : Result A E) (others : A → Stages) (refused : E → Stages) (content : Content) (end : Plan) (meant : A) →
     r ≡ Ok meant → ComesTo (others meant) content end → ComesTo (accepts r others refused) content end
 accepted-comes r others refused content end meant is c = subst (λ r. ComesTo (accepts r others refused) content end) (sym is) c
 
--- ---- a file that isn't there
+-- ---- a file that doesn't exist
 
--- over these files the stages come to no end
+-- with this content the stages lead to no end
 abbrev pub NeverComes : Stages → Content → Type 0
 NeverComes stages content = (end : Plan) → ComesTo stages content end → ⊥
 
--- then something stopped it
+-- in that case something stopped the command
 pub never-stops : (stages : Stages) (old new : Outside) (status : ℕ) → NeverComes stages old.files.content → Gone stages old new status →
     is_stop status ≡ true
 never-stops stages old new status never (inl same) = same.1
@@ -76,7 +76,7 @@ module _ {A E : Type 0} (path : List ℕ) (meaning : List ℕ → Result A E) (s
   pub never-unread : readable content path ≡ None → NeverComes (stage path meaning status line others) content
   never-unread none end c = none-some (readable content path) c.0 none c.1
 
-  -- what is accepted is what the others go by
+  -- if a stage is accepted, the end is one of the following stages
   pub stage-on : (meant : A) (end : Plan) → IsAccepted path meaning content meant →
       ComesTo (stage path meaning status line others) content end → ComesTo (others meant) content end
   stage-on meant end h c =
@@ -89,20 +89,20 @@ module _ {A E : Type 0} (path : List ℕ) (meaning : List ℕ → Result A E) (s
 
 -- ---- what was refused, and what was accepted
 
--- the cause of a refusal by a test of its status: this one, or the others
+-- the cause of a refusal, selected by a test of its status: this one or another
 abbrev pub cause_at : Bool → Type 0 → Type 0 → Type 0
 cause_at true this others = this
 cause_at false this others = others
 
--- the end is a refusal with this cause of its status; or this was accepted, and it is the end of it
+-- the end is a refusal for this cause of its status; or it is the last end, with what was accepted
 abbrev pub IsSorted : {A : Type 0} → (ℕ → Type 0) → (A → Plan) → Plan → Type 0
 IsSorted {A} causes last end = (causes end.status × (end.actions ≡ [])) ⊎ ((a : A) × (last a ≡ end))
 
--- so is each end to which the stages come
+-- the same for each end to which the stages lead
 abbrev pub Sorts : {A : Type 0} → (ℕ → Type 0) → (A → Plan) → Content → Stages → Type 0
 Sorts causes last content stages = (end : Plan) → ComesTo stages content end → IsSorted causes last end
 
--- nothing was changed, for a stop or a refusal; or this was accepted, and its end was carried out, or begun up to a stop
+-- nothing was changed, because of a stop or a refusal; or this was accepted, and its end was carried out, or done in part up to a stop
 abbrev pub Outcome : {A : Type 0} → (ℕ → Type 0) → (A → Plan) → Outside → Outside → ℕ → Type 0
 Outcome {A} causes last old new status =
     (IsUnchanged status old new × ((is_stop status ≡ true) ⊎ causes status)) ⊎ ((a : A) × Went (last a) old new status)
@@ -151,13 +151,13 @@ module _ {T : Type 0} (causes : ℕ → Type 0) (last : T → Plan) (old new : O
   refused-at go other (inl same) = (same.0, elim same.1 [ inl stop ↦ absurd (true≢false (sym stop ∙ go)) | inr why ↦ why ])
   refused-at go other (inr a) = absurd (other a.0 (a.1.carried go).is)
 
-  -- at a status that no refusal has
+  -- at a status that isn't that of a refusal
   pub accepted-at : is_stop status ≡ false → (causes status → ⊥) → Outcome causes last old new status →
       (a : T) × Went (last a) old new status
   accepted-at go none (inl same) = absurd (elim same.1 [ inl stop ↦ true≢false (sym stop ∙ go) | inr why ↦ none why ])
   accepted-at go none (inr a) = a
 
-  -- where a write failed
+  -- if a write failed
   pub begun-at : status ≡ 7 → Outcome causes last old new status → (a : T) × Went (last a) old new status
   begun-at seven (inl same) = absurd (same.0.no_output seven)
   begun-at seven (inr a) = a

@@ -1,8 +1,8 @@
--- How far a command came, by the parts of its plan.
+-- How far a command got, by the parts of its plan.
 use Rattle.std.proofs.Common.{◌≡◌, ◌⊎◌, ℕ, List, [], ◌∷◌, ◌++◌, Option, None, Some, Result, Ok, Err, IsSomeAnd, true, false, refl, sym, ap, ◌∙◌, subst, IsTrue, inl, inr, length, take, append-nil, true≢false}
 use Rattle.std.proofs.lemmas.Bool.{cases_Bool}
 use Rattle.std.proofs.Math.Seq.{take-length}
-use Rattle.bar_outside.specs.Causes.{Rose}
+use Rattle.bar_outside.specs.Code.Causes.{Rose}
 use Rattle.bar_outside.specs.Disk.{Content, Failure, readable}
 use Rattle.bar_outside.specs.declared.files.CallKind.TheVariants.{Read}
 use Rattle.bar_outside.specs.Plan.{Outside, Action, Plan, Ran, Reached, Begun, IsPartOf, IsPartOfNext, IsShowNext, IsFilesNext, IsLinkNext, Names, ending, doing, read_then, is_stop, content_after, shown, traffic_after}
@@ -26,13 +26,13 @@ undone status old new plan r told none unlinked quiet = record {
   no_output = quiet;
 }
 
--- nothing was to be done
+-- there was nothing to do
 undone-none : (status : ℕ) (old new : Outside) → IsTrue new.files.told → Reached [] status old new → IsUnchanged status old new
 undone-none status old new told r =
     undone status old new [] r told (Begun-none r.done r.begun) (λ e. subst IsLinkNext (no-next r.done r.begun) (r.at_link e))
     (λ e. subst IsShowNext (no-next r.done r.begun) (r.at_output e))
 
--- nothing was done, or a read, and then some of the rest
+-- nothing was done, or the read and then a part of the rest
 behind-read : (path : List ℕ) (rest : List Action) (status : ℕ) (old new : Outside) → IsTrue new.files.told →
     Reached (read path ∷ rest) status old new →
     IsUnchanged status old new ⊎ Reached rest status old new
@@ -98,7 +98,7 @@ reads_first path others old new status told w = by_content (readable old.files.c
           ]
         ]
 
--- it ended with its own status, or was stopped
+-- the plan ended with its own status, or was stopped
 unless_stopped : (plan : Plan) (old new : Outside) (status : ℕ) → Went plan old new status → UnlessStopped plan.status status
 unless_stopped plan old new status w = elim (cases_Bool (is_stop status)) [ inl stop ↦ inr stop | inr go ↦ inl (w.carried go).is ]
 
@@ -106,7 +106,7 @@ pub ends_there : EndsThere
 ends_there final line old new status told w =
     (undone-none status old new told w.part, unless_stopped (ending final line old.files.content) old new status w)
 
--- a part of printing a line prints a front of it
+-- a partial write of a line prints a prefix of it
 pub part-shown : (line : List ℕ) (part : Action) → IsPartOf part (show line) →
     (k : ℕ) × (shown (part ∷ []) ≡ take k line) × ((c : Content) → content_after (part ∷ []) c ≡ c)
 part-shown line (show bytes) h = (h.0, append-nil bytes ∙ h.1, λ c. refl)
@@ -166,7 +166,7 @@ gone-stages (reads path others) old new status told w =
       ]
     ]
 
--- the plan has the status and the line of the end to which the stages come
+-- the plan has the status and the line of the end to which the stages lead
 
 pub status-comes : (stages : Stages) (content : Content) (end : Plan) → ComesTo stages content end →
     (plan_by stages content).status ≡ end.status
@@ -197,7 +197,7 @@ calls-some : (stages : Stages) (content : Content) (o : Option Failure) → IsSo
 calls-some stages content (Some call) h = calls-stages stages content call h
 calls-some stages content None h = h
 
--- a plan with this status was carried out to its end, where no count rose
+-- if no fault count rose, a plan with this status was carried out to its end
 done-so : (plan : Content → Plan) (old new : Outside) (status final : ℕ) → Ends plan old new status → IsTrue new.files.told →
     (plan old.files.content).status ≡ final → (Rose old.files.faults new.files.faults → ⊥) → (Rose old.out.faults new.out.faults → ⊥) →
     (Rose old.wire.faults new.wire.faults → ⊥) → (status ≡ final) ⊎ (status ≡ 70)
@@ -228,7 +228,7 @@ goes_in_order stages old new status ends told =
       named = λ e. calls-some stages old.files.content new.files.failed (ends.file_named e told);
     }
 
--- ---- what a command shows of its own stages
+-- ---- consequences for a command made of stages
 
 -- what was read was accepted or refused
 pub comes-accepts : {A E : Type 0} (r : Result A E) (others : A → Stages) (refused : E → Stages) (content : Content) (end : Plan) →
@@ -242,14 +242,14 @@ pub each-accepts : {A E : Type 0} (P : List ℕ → Type 0) (Q : Plan → Type 0
 each-accepts P Q (Ok meant) others refused h k = h meant
 each-accepts P Q (Err fault) others refused h k = k fault
 
--- each call is a read of a file with the property, or one of an end with it
+-- each call is a read of a file with property P, or a call of an end with property Q
 pub each-call : (P : List ℕ → Type 0) (Q : Plan → Type 0) (stages : Stages) (call : Failure) → EachStage P Q stages → IsCallOf stages call →
     ((path : List ℕ) × P path × (call ≡ record { kind = Read; path = path })) ⊎ ((end : Plan) × Q end × Names end.actions call)
 each-call P Q (does end) call h k = inr (end, h, k)
 each-call P Q (reads path others) call h (inl e) = inl (path, h.0, e)
 each-call P Q (reads path others) call h (inr more) = each-call P Q (others more.0) call (h.1 more.0) more.1
 
--- a stage was accepted, and the others come to the end; or it was refused, and this is the end
+-- a stage was accepted, and the following stages lead to the end; or it was refused, and this is the end
 pub comes-stage : {A E : Type 0} (path : List ℕ) (meaning : List ℕ → Result A E) (status : ℕ) (line : E → List ℕ) (others : A → Stages)
     (content : Content) (end : Plan) → ComesTo (stage path meaning status line others) content end →
     ((meant : A) × IsAccepted path meaning content meant × ComesTo (others meant) content end)
@@ -283,9 +283,9 @@ pub each-stage : {A E : Type 0} (P : List ℕ → Type 0) (Q : Plan → Type 0) 
 each-stage P Q path meaning status line others h k more =
     (h, λ bytes. each-accepts P Q (meaning bytes) others (λ fault. refuses status (line fault)) more k)
 
--- ---- at a status that is no stop, and at the stops
+-- ---- at a status that isn't a stop, and at the stops
 
--- the end to which the stages come was carried out
+-- the end to which the stages lead was carried out
 pub end-carried : (stages : Stages) (old new : Outside) (status : ℕ) → is_stop status ≡ false → Gone stages old new status →
     (end : Plan) × ComesTo stages old.files.content end × Carried end old new status
 end-carried stages old new status go (inl same) = absurd (true≢false (sym same.1 ∙ go))

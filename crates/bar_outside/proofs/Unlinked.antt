@@ -1,7 +1,7 @@
 -- Plans without a call of the link.
 use Rattle.std.proofs.Common.{◌≡◌, ◌⊎◌, ◌==◌, ◌||◌, ℕ, Bool, true, false, List, [], ◌∷◌, ◌++◌, Option, None, Some, Result, Ok, Err, IsTrue, refl, sym, ◌∙◌, inl, inr, map}
 use Rattle.std.proofs.lemmas.Bool.{cases_Bool, eqb-true}
-use Rattle.bar_outside.specs.Causes.{Rose}
+use Rattle.bar_outside.specs.Code.Causes.{Rose}
 use Rattle.bar_outside.specs.Disk.{Content, readable}
 use Rattle.bar_outside.specs.Wire.{Traffic}
 use Rattle.bar_outside.specs.Plan.{Outside, Action, Plan, Begun, Reached, IsLinkNext, IsPartOf, IsPartOfNext, accepting, is_stop, reading, read_then, traffic_after}
@@ -76,7 +76,7 @@ traffic-same (append path bytes ∷ others) traffic h = traffic-same others traf
 traffic-same (show bytes ∷ others) traffic h = traffic-same others traffic h
 traffic-same (link call ∷ others) traffic h = absurd h
 
--- no part is a call of the link
+-- no partial action is a call of the link
 part-unlinked : (part whole : Action) → IsPartOf part whole → IsUnlinked (part ∷ [])
 part-unlinked (read path) whole h = tt
 part-unlinked (create path) whole h = tt
@@ -113,7 +113,7 @@ pub same-traffic : (plan : List Action) (status : ℕ) (old new : Outside) → I
 same-traffic plan status old new h r =
     r.ran.wire ∙ traffic-same r.done old.wire.traffic (begun-unlinked plan r.done r.begun h)
 
--- and no fault of it came
+-- no fault of the link occurred
 pub no-link : (plan : List Action) (status : ℕ) (old new : Outside) → IsUnlinked plan → Reached plan status old new → status ≡ 6 → ⊥
 no-link plan status old new h r e = no-call r.begun.rest (unlinked-rest r.begun.front r.begun.rest (rw r.begun.plan_is at h)) (r.at_link e)
 
@@ -131,7 +131,7 @@ stop-cases status h = by_tests (status == 3) (status == 6) (status == 7) (status
     by_tests false false false true p q r s h = inr (inr (inr (eqb-true status 70 s)))
     by_tests false false false false p q r s h = absurd (true-not_false (sym h))
 
--- where no count rose, the plan has its status, but for want of memory
+-- if no fault count rose, the status is the plan's, unless memory ran out
 pub done-unlinked : (plan : Content → Plan) (old new : Outside) (status : ℕ) → Ends plan old new status → IsTrue new.files.told →
     IsUnlinked (plan old.files.content).actions → (Rose old.files.faults new.files.faults → ⊥) → (Rose old.out.faults new.out.faults → ⊥) →
     (status ≡ (plan old.files.content).status) ⊎ (status ≡ 70)

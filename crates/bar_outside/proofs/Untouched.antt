@@ -44,7 +44,7 @@ Touches-right (link call ∷ others) ys path t = Touches-right others ys path t
 Touches-right (create name ∷ others) ys path t = inr (Touches-right others ys path t)
 Touches-right (append name bytes ∷ others) ys path t = inr (Touches-right others ys path t)
 
--- a part touches what the whole touches
+-- a partial action touches only what the whole action touches
 Touches-one : (a b : Action) (rest : List Action) (path : List ℕ) → IsPartOf a b → Touches (a ∷ []) path → Touches (b ∷ rest) path
 Touches-one (append p bs) (append q cs) rest path h (inl e) = inl (e ∙ h.0)
 Touches-one (append p bs) (append q cs) rest path h (inr t) = absurd t
@@ -76,7 +76,7 @@ Touches-begun plan done path b t =
       | inr c ↦ Touches-right b.front b.rest path (Touches-part b.part b.rest path b.part_is c)
     ])
 
--- what the plan doesn't touch is as it was, however far it came
+-- a file that the plan doesn't touch is unchanged, however far the plan got
 pub untouched-reached : (plan : List Action) (path : List ℕ) (old new : Outside) (status : ℕ) → Reached plan status old new →
     IsTrue new.files.told →
     (Touches plan path → ⊥) → new.files.content path ≡ old.files.content path

@@ -5,7 +5,7 @@ use Rattle.bar_outside.specs.Stream.{Stream}
 use Rattle.bar_outside.specs.Wire.{Arrival, Bound, Traffic, Wire, bound_to, gave_if, sent_to}
 use Rattle.bar_outside.specs.declared.files.CallKind.TheVariants.{Read, Create, Append}
 
--- the files, what is printed, and the link
+-- the files, the output and the link
 pub record Outside : Type 0 where
   pub files : Disk
   pub out : Stream
@@ -14,7 +14,7 @@ pub record Outside : Type 0 where
 abbrev pub outside : Disk → Stream → Wire → Outside
 outside files out wire = record { files = files; out = out; wire = wire }
 
--- the same with other files, another output, another link
+-- the same outside with other files, another output or another link
 
 abbrev pub with_files : Outside → Disk → Outside
 with_files rest files = outside files rest.out rest.wire
@@ -25,7 +25,7 @@ with_out rest out = outside rest.files out rest.wire
 abbrev pub with_wire : Outside → Wire → Outside
 with_wire rest wire = outside rest.files rest.out wire
 
--- a call of the link: what comes next is asked for, and comes or doesn't
+-- a call of the link; a call to receive may get an arrival or none
 pub data LinkCall : Type 0 where
   bind : (to : Bound) → LinkCall
   receive : (came : Option Arrival) → LinkCall
@@ -38,7 +38,7 @@ pub data Action : Type 0 where
   show : (bytes : List ℕ) → Action
   link : (call : LinkCall) → Action
 
--- what the files hold after an action
+-- the content of the files after an action
 abbrev pub content_by : Action → Content → Content
 content_by (read path) content = content
 content_by (create path) content = created content path
@@ -50,7 +50,7 @@ abbrev pub content_after : List Action → Content → Content
 content_after [] content = content
 content_after (a ∷ others) content = content_after others (content_by a content)
 
--- which files are created after an action
+-- the created files after an action
 abbrev pub created_by : Action → CreatedFiles → CreatedFiles
 created_by (read path) here = here
 created_by (create path) here = with_file here path
@@ -74,7 +74,7 @@ abbrev pub shown : List Action → List ℕ
 shown [] = []
 shown (a ∷ others) = shown_by a ++ shown others
 
--- what the link did after an action
+-- the traffic of the link after an action
 
 abbrev pub traffic_by_call : LinkCall → Traffic → Traffic
 traffic_by_call (bind to) traffic = bound_to to traffic
@@ -92,13 +92,13 @@ abbrev pub traffic_after : List Action → Traffic → Traffic
 traffic_after [] traffic = traffic
 traffic_after (a ∷ others) traffic = traffic_after others (traffic_by a traffic)
 
--- these actions, and nothing else, were done between old and new
+-- exactly these actions were done between old and new
 pub record Ran (done : List Action) (old new : Outside) : Type 0 where
   pub files : new.files.content ≡ content_after done old.files.content
   pub out : new.out.bytes ≡ old.out.bytes ++ shown done
   pub wire : new.wire.traffic ≡ traffic_after done old.wire.traffic
 
--- the action was done in part: a front of its bytes stands, or the file that it makes
+-- the action was done in part: a prefix of its bytes was written, or its file was created
 abbrev pub IsPartOf : Action → Action → Type 0
 IsPartOf (create path) (create same) = path ≡ same
 IsPartOf (append path part) (append same whole) = (path ≡ same) × ((k : ℕ) × (part ≡ take k whole))
@@ -111,7 +111,7 @@ IsPartOfNext [] next = Unit {0}
 IsPartOfNext (part ∷ []) (whole ∷ others) = IsPartOf part whole
 IsPartOfNext _ _ = ⊥
 
--- what was done is a front of the plan, and maybe a part of the action behind it
+-- what was done is a prefix of the plan, and possibly a part of the next action
 pub record Begun (plan done : List Action) : Type 0 where
   pub front : List Action
   pub part : List Action
@@ -137,8 +137,8 @@ abbrev pub IsLinkNext : List Action → Type 0
 IsLinkNext (link call ∷ others) = Unit {0}
 IsLinkNext _ = ⊥
 
--- how far a plan was done that ended with this status; a fault comes at the next action: 3 at one of the files, 6 at one of the link, 7 at
--- one that prints
+-- how far a plan got that ended with this status; a fault occurs at the next action: 3 at an action on the files, 6 at a call of the link,
+-- 7 at an action that prints
 pub record Reached (plan : List Action) (status : ℕ) (old new : Outside) : Type 0 where
   pub done : List Action
   pub begun : Begun plan done
@@ -156,13 +156,13 @@ Names (append path bytes ∷ others) call = (call ≡ record { kind = Append; pa
 Names (show bytes ∷ others) call = Names others call
 Names (link done ∷ others) call = Names others call
 
--- each append is to a file that is created by then
+-- each append is to a file that has been created before
 abbrev pub CanRun : List Action → CreatedFiles → Type 0
 CanRun [] here = Unit {0}
 CanRun (append path bytes ∷ others) here = IsTrue (here path) × CanRun others here
 CanRun (a ∷ others) here = CanRun others (created_by a here)
 
--- the lines that are printed at a stop
+-- the lines that are printed if the plan is stopped
 
 abbrev pub file_failed : List ℕ
 file_failed = codes "bar: file failed" ++ 10 ∷ []
@@ -176,7 +176,7 @@ output_failed = codes "bar: output failed" ++ 10 ∷ []
 abbrev pub no_memory : List ℕ
 no_memory = codes "bar: no memory" ++ 10 ∷ []
 
--- the actions of a command in order, the status after them, and the line that is printed at this status
+-- the actions of a command in order, its status after them, and the line printed for this status
 pub record Plan : Type 0 where
   pub actions : List Action
   pub status : ℕ
@@ -185,9 +185,9 @@ pub record Plan : Type 0 where
 abbrev pub before : Action → Plan → Plan
 before action plan = record { actions = action ∷ plan.actions; status = plan.status; line = plan.line }
 
--- A command is a plan by what the files hold. It is made of four parts.
+-- The plan of a command depends on what the files hold. It is built from four parts.
 
--- this file is read, and the rest goes by its bytes; 3 where it isn't there or is too large
+-- this file is read, and the rest depends on its bytes; the status is 3 if it doesn't exist or is too large
 abbrev pub read_then : List ℕ → (List ℕ → Content → Plan) → Content → Option (List ℕ) → Plan
 read_then path others content None = record { actions = read path ∷ []; status = 3; line = file_failed }
 read_then path others content (Some bytes) = before (read path) (others bytes content)
@@ -195,7 +195,7 @@ read_then path others content (Some bytes) = before (read path) (others bytes co
 abbrev pub reading : List ℕ → (List ℕ → Content → Plan) → Content → Plan
 reading path others content = read_then path others content (readable content path)
 
--- what was read stands for something, and the rest goes by it; or it is refused, and the end goes by the fault
+-- if the bytes read are accepted, the rest depends on their meaning; if they are refused, the end depends on the fault
 abbrev pub accepting : {A E : Type 0} → Result A E → (A → Content → Plan) → (E → Content → Plan) → Content → Plan
 accepting (Ok meant) others refused = others meant
 accepting (Err fault) others refused = refused fault
@@ -204,15 +204,15 @@ accepting (Err fault) others refused = refused fault
 abbrev pub ending : ℕ → List ℕ → Content → Plan
 ending status line content = record { actions = []; status = status; line = line }
 
--- these actions, and then the end
+-- these actions are done, and then the command ends
 abbrev pub doing : List Action → ℕ → List ℕ → Content → Plan
 doing actions status line content = record { actions = actions; status = status; line = line }
 
--- the statuses that a fault has, or want of memory
+-- the statuses of faults and of running out of memory
 abbrev pub is_stop : ℕ → Bool
 is_stop status = status == 3 || status == 6 || status == 7 || status == 70
 
--- the line that is printed at a status: that of the stop, or else the plan's
+-- the line printed for a status: that of the stop, or otherwise the plan's
 abbrev pub line_at : Plan → ℕ → List ℕ
 line_at plan status =
     if status == 3 then file_failed
@@ -221,7 +221,7 @@ line_at plan status =
     else if status == 70 then no_memory
     else plan.line
 
--- one of the actions creates this file or adds to it
+-- one of the actions creates this file or appends to it
 abbrev pub Touches : List Action → List ℕ → Type 0
 Touches [] path = ⊥
 Touches (create name ∷ others) path = (path ≡ name) ⊎ Touches others path

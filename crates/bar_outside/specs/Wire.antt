@@ -1,10 +1,10 @@
--- A link, and what each call does to it.
+-- A link, and the effect of each call on it.
 use Rattle.std.specs.Prelude.{◌≡◌, ◌≢◌, ◌≤◌, ℕ, Bool, true, false, List, [], ◌∷◌, ◌++◌, take, Option, None, Some, Result, Ok, Err, IsTrue, IfOk, OnOk, OnErr}
 use Rattle.bar_outside.specs.declared.link.LinkFault.{LinkFault}
 use Rattle.bar_outside.specs.declared.link.LinkFault.TheVariants.{Failed}
 use Rattle.bar_outside.specs.declared.link.Taken.{Taken}
 use Rattle.bar_outside.specs.declared.link.Taken.TheVariants as raw
-use Rattle.bar_outside.specs.Causes.{HasCause}
+use Rattle.bar_outside.specs.Code.Causes.{HasCause}
 
 -- what a link gives
 pub data Arrival : Type 0 where
@@ -12,7 +12,7 @@ pub data Arrival : Type 0 where
   Datagram : (bytes : List ℕ) → Arrival
   End : Arrival
 
--- what a link is bound to: a party, a session's port, when the first tick is due, and how long a tick is
+-- what a link is bound to: a party, a session's port, the time of the first tick, and the length of a tick
 pub record Bound : Type 0 where
   pub me : ℕ
   pub port : ℕ
@@ -27,7 +27,7 @@ pub record Traffic : Type 0 where
   pub bound : Option Bound
   -- the ticks and datagrams that it gave, in order
   pub taken : List Arrival
-  -- it gave its end since it was bound
+  -- it gave its end since it was last bound
   pub ended : Bool
   -- the datagrams that it sent, in order, each with its receiver
   pub sent : List (ℕ × List ℕ)
@@ -39,16 +39,16 @@ pub record Wire : Type 0 where
   pub traffic : Traffic
   pub faults : ℕ
 
--- a link that did nothing yet
+-- the traffic of a link that has done nothing
 abbrev pub no_traffic : Traffic
 no_traffic = record { bound = None; taken = []; ended = false; sent = [] }
 
--- ---- what each call changes
+-- ---- the effect of each call
 
 abbrev pub bound_to : Bound → Traffic → Traffic
 bound_to bound traffic = record { bound = Some bound; taken = traffic.taken; ended = false; sent = traffic.sent }
 
--- the end isn't one of what was taken
+-- the end isn't one of the items taken
 abbrev pub gave : Arrival → Traffic → Traffic
 gave Tick traffic = record { bound = traffic.bound; taken = traffic.taken ++ Tick ∷ []; ended = traffic.ended; sent = traffic.sent }
 gave (Datagram bytes) traffic =
@@ -59,7 +59,7 @@ abbrev pub sent_to : ℕ → List ℕ → Traffic → Traffic
 sent_to to bytes traffic =
     record { bound = traffic.bound; taken = traffic.taken; ended = traffic.ended; sent = traffic.sent ++ (to, bytes) ∷ [] }
 
--- what was taken into a buffer
+-- the arrival that was taken into a buffer
 abbrev pub arrival_of : List ℕ → Taken → Arrival
 arrival_of buf raw.Tick = Tick
 arrival_of buf (raw.Datagram len) = Datagram (take len buf)
@@ -70,7 +70,7 @@ len_of raw.Tick = 0
 len_of (raw.Datagram len) = len
 len_of raw.End = 0
 
--- what was given, which is nothing after a fault
+-- the traffic after an arrival, if there was one; a fault gives none
 abbrev pub gave_if : Option Arrival → Traffic → Traffic
 gave_if None traffic = traffic
 gave_if (Some arrival) traffic = gave arrival traffic
@@ -79,11 +79,11 @@ abbrev pub arrived : {E : Type 0} → List ℕ → Result Taken E → Option Arr
 arrived buf (Ok taken) = Some (arrival_of buf taken)
 arrived buf (Err fault) = None
 
--- the most bytes of a datagram over a link
+-- the largest size of a datagram on a link, in bytes
 abbrev pub largest_packet : ℕ
 largest_packet = 65507
 
--- a call with this effect, which has none after a fault
+-- a call with this effect; after a fault it has none
 pub record Acts {T : Type 0} (change : Traffic → Traffic) (old new : Wire) (result : Result T LinkFault) : Type 0 where
   pub reliable : new.reliable ≡ old.reliable
   pub cause : HasCause Failed old.faults new.faults result
@@ -91,7 +91,7 @@ pub record Acts {T : Type 0} (change : Traffic → Traffic) (old new : Wire) (re
   pub fault : OnErr result (new.traffic ≡ old.traffic)
   pub refused : IsTrue old.reliable → result ≢ Err Failed
 
--- the taking of what comes next
+-- a call that takes the next arrival
 pub record Takes (buf : List ℕ) (old new : Wire) (result : Result Taken LinkFault) : Type 0 where
   pub acts : Acts (gave_if (arrived buf result)) old new result
   pub within : IfOk result (λ taken. len_of taken ≤ largest_packet)

@@ -1,12 +1,12 @@
-//! The actions of a command, one call each. A fault of the outside is handed on as a fault of the command.
-//! Each clause speaks of any outside whose other parts stay as they are.
+//! The actions of a command, one function each. A fault of the outside is returned as a fault of the command.
+//! Each clause holds for any outside whose other parts are unchanged.
 ghost use Rattle.std.specs.Prelude.{◌∷◌, ◌≤◌, [], IfOk, length};
 ghost use Rattle.bar_outside.specs.Plan.{Outside, with_files, with_out, with_wire};
 ghost use Rattle.bar_outside.specs.Plan.Action.{create, append, show, link as call};
 ghost use Rattle.bar_outside.specs.Plan.LinkCall.{bind, receive, send};
 ghost use Rattle.bar_outside.specs.Wire.{arrived, bound_by, largest_packet, len_of};
 ghost use Rattle.bar_outside.specs.Disk.{Content};
-ghost use Rattle.bar_outside.specs.Follows.{Follows, ReadsFile};
+ghost use Rattle.bar_outside.specs.Code.Follows.{Follows, ReadsFile};
 
 use crate::{Fault, Files, Link, Sink, Taken};
 
@@ -17,7 +17,7 @@ pub fn read_file<F: Files>(files: &mut F, path: &str) -> Result<Vec<u8>, Fault>
     Ok(files.read(path)?)
 }
 
-/// Leaves an empty file of this name.
+/// Creates an empty file with this name.
 pub fn create_file<F: Files>(files: &mut F, path: &str) -> Result<(), Fault>
     ensures { (w : Outside) (was : Content) →
         Follows (create path.now ∷ []) (with_files w (F.disk files.old was)) (with_files w (F.disk files.new was)) result }
@@ -26,7 +26,7 @@ pub fn create_file<F: Files>(files: &mut F, path: &str) -> Result<(), Fault>
     Ok(())
 }
 
-/// Adds bytes to a file.
+/// Appends bytes to a file.
 pub fn append_file<F: Files>(files: &mut F, path: &str, bytes: &[u8]) -> Result<(), Fault>
     ensures { (w : Outside) (was : Content) →
         Follows (append path.now bytes.now ∷ []) (with_files w (F.disk files.old was)) (with_files w (F.disk files.new was)) result }
@@ -43,7 +43,7 @@ pub fn show_bytes<K: Sink>(out: &mut K, bytes: &[u8]) -> Result<(), Fault>
     Ok(())
 }
 
-/// Binds the link to a party of a session with this port.
+/// Binds the link to a party of a session on this port.
 pub fn bind_link<L: Link>(
     link: &mut L,
     me: u16,
@@ -58,7 +58,7 @@ pub fn bind_link<L: Link>(
     Ok(())
 }
 
-/// Takes what comes next from the link. The buffer has room for the largest datagram.
+/// Takes the next tick, datagram or end from the link. The buffer has room for the largest datagram.
 pub fn receive_next<L: Link>(link: &mut L, buf: &mut [u8]) -> Result<Taken, Fault>
     requires { largest_packet ≤ length buf.old }
     ensures follows { (w : Outside) → Follows (call (receive (arrived buf.new result)) ∷ [])

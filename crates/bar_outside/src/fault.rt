@@ -1,8 +1,8 @@
-//! What may stop a command.
+//! The faults that can stop a command.
 use crate::{FileFault, LinkFault, SinkFault};
 use std::alloc::AllocError;
 
-/// What may stop a command.
+/// Why a command stopped.
 #[derive(Clone, Copy, Debug, PartialEq, Eq)]
 pub enum Fault {
     /// A call of the files failed.
@@ -16,7 +16,7 @@ pub enum Fault {
 
 impl From<FileFault> for Fault {
     ghost use Rattle.std.specs.Prelude.{◌≡◌};
-    ghost use Rattle.bar_outside.specs.Faults.{fault_of_file};
+    ghost use Rattle.bar_outside.specs.Code.Faults.{fault_of_file};
 
     ghost from_gives = { λ cause fault. fault ≡ fault_of_file cause };
 
@@ -30,7 +30,7 @@ impl From<FileFault> for Fault {
 
 impl From<LinkFault> for Fault {
     ghost use Rattle.std.specs.Prelude.{◌≡◌};
-    ghost use Rattle.bar_outside.specs.Faults.{fault_of_link};
+    ghost use Rattle.bar_outside.specs.Code.Faults.{fault_of_link};
 
     ghost from_gives = { λ cause fault. fault ≡ fault_of_link cause };
 
@@ -44,7 +44,7 @@ impl From<LinkFault> for Fault {
 
 impl From<SinkFault> for Fault {
     ghost use Rattle.std.specs.Prelude.{◌≡◌};
-    ghost use Rattle.bar_outside.specs.Faults.{fault_of_sink};
+    ghost use Rattle.bar_outside.specs.Code.Faults.{fault_of_sink};
 
     ghost from_gives = { λ cause fault. fault ≡ fault_of_sink cause };
 

@@ -1,18 +1,18 @@
 //! Files by name.
 use std::alloc::{AllocError, AllocFailed};
 
-/// The most bytes of a file that can be read.
+/// The largest size of a file that can be read, in bytes.
 pub const LARGEST_FILE: usize = 1_073_741_824;
 
 /// Why a call of the files failed.
 #[derive(Clone, Copy, Debug, PartialEq, Eq)]
 pub enum FileFault {
-    /// The file system refused the call. The count of faults rose.
+    /// The file system refused the call. The fault count rose.
     Failed,
     NoMemory,
 }
 
-/// Which call of the files it was.
+/// The kind of a call of the files.
 #[derive(Clone, Copy, Debug, PartialEq, Eq)]
 pub enum CallKind {
     Read,
@@ -42,21 +42,23 @@ impl<T: Drop> From<AllocFailed<T>> for FileFault {
     }
 }
 
-/// Files by name. `disk` tells of them what they hold, and whether each read so far fits, where they held some content at first.
+/// Files by name. Given some assumed initial content, `disk` represents what the files hold, and whether each read so far agrees with it.
 pub trait Files {
     ghost use Rattle.bar_outside.specs.Disk.{Content, Disk, Reads, Creates, Appends};
 
     ghost disk: { Self → Content → Disk };
 
-    /// All the bytes of a file. A file that isn't there, or that has more than `LARGEST_FILE` bytes, is `Failed`.
+    /// Returns all bytes of a file. The result is `Failed` if the file doesn't exist or has more than `LARGEST_FILE` bytes.
     fn read(&mut self, path: &str) -> Result<Vec<u8>, FileFault>
         ensures { (was : Content) → Reads path.now (disk self.old was) (disk self.new was) result };
 
-    /// Leaves an empty file of this name. After a fault the file is as it was, or empty, and no more can be added to it than before.
+    /// Creates an empty file with this name. After a fault the file is unchanged or empty, and appending to it is allowed only if it was
+    /// before.
     fn create(&mut self, path: &str) -> Result<(), FileFault>
         ensures { (was : Content) → Creates path.now (disk self.old was) (disk self.new was) result };
 
-    /// Adds the bytes to a file that was created in this run; any other is `Failed`. After a fault a part of them, from the front, may stand.
+    /// Appends the bytes to a file that was created in this run; for any other file the result is `Failed`. After a fault a prefix of the
+    /// bytes may have been appended.
     fn append(&mut self, path: &str, bytes: &[u8]) -> Result<(), FileFault>
         ensures { (was : Content) → Appends path.now bytes.now (disk self.old was) (disk self.new was) result };
 }

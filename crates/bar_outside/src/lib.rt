@@ -1,6 +1,5 @@
-//! The outside as the program sees it: files, sinks, a link and child programs, each with a count of its faults and, where it tells, what it
-//! holds or did.
-//! A command is a plan, a list of actions on the outside; what was done of a plan is said by one relation.
+//! The outside as the program sees it: files, sinks, a link and child programs. Each has a fault count and a model of what it holds or did.
+//! A command is a plan, which is a list of actions on the outside. One relation states which part of a plan was done.
 #![tactic(auto)]
 
 mod actions;

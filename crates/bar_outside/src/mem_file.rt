@@ -11,7 +11,7 @@ pub struct MemFile {
 }
 
 impl MemFile {
-    /// Adds the bytes where the file was created in this run, and says whether it was.
+    /// Appends the bytes if the file was created in this run, and returns whether it was.
     pub fn add(&mut self, bytes: &[u8]) -> Result<bool, NoMemory>
         ensures done { IfOk result (λ done. done ≡ self.old.created) }
         ensures added { result ≡ Ok true → self.new.bytes.items ≡ self.old.bytes.items ++ bytes.now }

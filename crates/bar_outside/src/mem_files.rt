@@ -2,8 +2,8 @@
 ghost use Rattle.std.specs.Prelude.{◌≡◌, ◌⊎◌, true, false, IfOk, OnOk, OnErr, IsErr, IsNone, IsTrue, None, Some, Ok, Err};
 ghost use Rattle.std.specs.Option.{option_copied};
 ghost use Rattle.bar_outside.specs.Disk.{created, appended, put_at, readable, with_file};
-ghost use Rattle.bar_outside.specs.Schedule.{failing, next_call, fails_next, fails_never};
-ghost use Rattle.bar_outside.specs.MemFiles.{content_of, created_in};
+ghost use Rattle.bar_outside.specs.Code.Schedule.{failing, next_call, fails_next, fails_never};
+ghost use Rattle.bar_outside.specs.Code.MemFiles.{content_of, created_in};
 
 use crate::mem_file::MemFile;
 use crate::schedule::{Schedule, is_listed, new_schedule};
@@ -18,7 +18,7 @@ pub struct FailedCall {
     pub path: String,
 }
 
-/// Files in memory. The calls with the numbers given, counted from 1, fail: such an append may add the first half of its bytes.
+/// Files in memory. The calls with the given numbers, counted from 1, fail. A failing append may append the first half of its bytes.
 #[derive(Drop)]
 pub struct MemFiles {
     alloc: Global,
@@ -29,11 +29,11 @@ pub struct MemFiles {
 }
 
 impl MemFiles {
-    ghost use Rattle.bar_outside.specs.MemFiles.{disk_of, schedule_of};
+    ghost use Rattle.bar_outside.specs.Code.MemFiles.{disk_of, schedule_of};
     ghost use Rattle.bar_outside.specs.Disk.{Calls};
     ghost use Rattle.std.specs.Prelude.{⊤};
 
-    /// No files. `fail` has the numbers of the calls that are to fail.
+    /// No files. `fail` contains the numbers of the calls that are to fail.
     pub fn make(alloc: Global, fail: Vec<u64>) -> MemFiles
         ensures disk { disk_of result ≡
             record {
@@ -55,7 +55,7 @@ impl MemFiles {
         }
     }
 
-    /// Prepares a file. It counts as no call, and creates nothing.
+    /// Puts a file with these bytes there. This isn't counted as a call, nor as the creation of the file in this run.
     pub fn put(&mut self, path: &str, bytes: &[u8]) -> Result<(), NoMemory>
         ensures put { OnOk result (disk_of self.new ≡
             record (disk_of self.old) { content = put_at (disk_of self.old).content path.now bytes.now }) }
@@ -69,7 +69,7 @@ impl MemFiles {
         Ok(())
     }
 
-    /// The bytes of a file, if it is there. It counts as no call.
+    /// The bytes of a file, if it exists. This isn't counted as a call.
     pub fn get(&self, path: &str) -> Option<&[u8]>
         ensures { option_copied result ≡ (disk_of self.now).content path.now }
     {
@@ -95,9 +95,9 @@ impl MemFiles {
 
 impl Files for MemFiles {
     ghost use Rattle.bar_outside.specs.Disk.{Reads, Creates, Appends};
-    ghost use Rattle.bar_outside.specs.MemFiles.{disk_of, schedule_of};
+    ghost use Rattle.bar_outside.specs.Code.MemFiles.{disk_of, schedule_of};
 
-    // they hold what they hold, and each read fits that
+    // their content doesn't depend on an assumed initial content, and each read agrees with it
     ghost disk = { λ files was. disk_of files };
 
     fn read(&mut self, path: &str) -> Result<Vec<u8>, FileFault>
@@ -147,7 +147,7 @@ impl Files for MemFiles {
     }
 }
 
-// Leaves an empty file of this name.
+// Creates an empty file with this name.
 fn put_empty(
     alloc: Global,
     files: &mut BTreeMap<String, MemFile>,
@@ -165,7 +165,7 @@ fn put_empty(
     Ok(())
 }
 
-// A file of this name was created in this run.
+// Whether a file with this name was created in this run.
 fn is_created(files: &BTreeMap<String, MemFile>, path: &str) -> bool
     ensures { result ≡ created_in files.now path.now }
 {
@@ -175,7 +175,7 @@ fn is_created(files: &BTreeMap<String, MemFile>, path: &str) -> bool
     }
 }
 
-// Adds the bytes to the file of this name where it was created in this run, and says whether it was.
+// Appends the bytes to the file with this name if it was created in this run, and returns whether it was.
 fn add_bytes(
     files: &mut BTreeMap<String, MemFile>,
     path: &str,

@@ -1,7 +1,7 @@
 //! A link in memory.
 ghost use Rattle.std.specs.Prelude.{◌≡◌, ◌≤◌, None, map, option_map, take, length, IsTrue, IfOk, Err, true};
-ghost use Rattle.bar_outside.specs.Schedule.{failing, next_call, fails_next, fails_never};
-ghost use Rattle.bar_outside.specs.MemTaken.{are_small, bound_in, bytes_sent};
+ghost use Rattle.bar_outside.specs.Code.Schedule.{failing, next_call, fails_next, fails_never};
+ghost use Rattle.bar_outside.specs.Code.MemTaken.{are_small, bound_in, bytes_sent};
 
 use crate::mem_place::Place;
 use crate::mem_sent::Sent;
@@ -10,7 +10,7 @@ use crate::schedule::{Schedule, is_listed, new_schedule};
 use crate::{Link, LinkFault, Taken};
 use std::alloc::Global;
 
-/// A link in memory: it gives a list, and after it its end. The calls with the numbers given, counted from 1, fail.
+/// A link in memory: it gives the items of a list, and then its end. The calls with the given numbers, counted from 1, fail.
 #[derive(Drop)]
 pub struct MemLink {
     alloc: Global,
@@ -27,9 +27,9 @@ pub struct MemLink {
 
 impl MemLink {
     ghost use Rattle.bar_outside.specs.Wire.{no_traffic};
-    ghost use Rattle.bar_outside.specs.MemLink.{wire_of, schedule_of};
+    ghost use Rattle.bar_outside.specs.Code.MemLink.{wire_of, schedule_of};
 
-    /// A link that is bound to nothing yet, and gives this list, in which a datagram has at most 65,507 bytes. `fail` has the numbers of the
+    /// A link that isn't bound yet and gives this list, whose datagrams have at most 65,507 bytes each. `fail` contains the numbers of the
     /// calls that are to fail.
     pub fn make(alloc: Global, list: Vec<MemTaken>, fail: Vec<u64>) -> MemLink
         requires { are_small list.items ≡ true }
@@ -56,7 +56,7 @@ impl MemLink {
         &self.sent
     }
 
-    /// What it is bound to, or `None`.
+    /// What it is bound to, or `None` if it isn't bound.
     pub fn place(&self) -> Option<Place>
         ensures { option_map bound_in result ≡ (wire_of self.now).traffic.bound }
     {
@@ -64,7 +64,7 @@ impl MemLink {
     }
 }
 
-// Writes bytes to the front of a buffer.
+// Writes bytes to the start of a buffer.
 fn fill(buf: &mut [u8], bytes: &[u8])
     requires { length bytes.now ≤ length buf.old }
     ensures { take (length bytes.now) buf.new ≡ bytes.now }
@@ -74,7 +74,7 @@ fn fill(buf: &mut [u8], bytes: &[u8])
 
 impl Link for MemLink {
     ghost use Rattle.bar_outside.specs.Wire.{Acts, Takes, arrival_of, bound_by, bound_to, largest_packet, sent_to};
-    ghost use Rattle.bar_outside.specs.MemLink.{wire_of, schedule_of, next_of};
+    ghost use Rattle.bar_outside.specs.Code.MemLink.{wire_of, schedule_of, next_of};
 
     ghost wire = { wire_of };
 
@@ -101,7 +101,7 @@ impl Link for MemLink {
     fn next(&mut self, buf: &mut [u8]) -> Result<Taken, LinkFault>
         requires { largest_packet ≤ length buf.old }
         ensures takes { Takes buf.new (wire_of self.old) (wire_of self.new) result }
-        // the list in order, and its end exactly after it
+        // the items of the list in order, and the end only after the last one
         ensures gives { IfOk result (λ taken. arrival_of buf.new taken ≡ next_of self.old) }
         ensures counted { schedule_of self.new ≡ next_call (schedule_of self.old) }
         ensures listed { IsTrue (fails_next (schedule_of self.old)) → result ≡ Err LinkFault.Failed }

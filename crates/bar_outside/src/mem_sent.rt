@@ -1,4 +1,4 @@
-/// A datagram that a link in memory sent, and its receiver.
+/// A datagram that an in-memory link sent, and its receiver.
 #[derive(Drop)]
 pub struct Sent {
     pub to: u16,

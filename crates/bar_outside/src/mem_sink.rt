@@ -1,12 +1,12 @@
 //! A sink in memory.
 ghost use Rattle.std.specs.Prelude.{◌≡◌, [], IsTrue, Err, true};
-ghost use Rattle.bar_outside.specs.Schedule.{failing, next_call, fails_next, fails_never};
+ghost use Rattle.bar_outside.specs.Code.Schedule.{failing, next_call, fails_next, fails_never};
 
 use crate::schedule::{Schedule, is_listed, new_schedule};
 use crate::{Sink, SinkFault};
 use std::alloc::Global;
 
-/// A sink in memory. The writes with the numbers given, counted from 1, fail: such a write may add the first half of its bytes.
+/// A sink in memory. The writes with the given numbers, counted from 1, fail. A failing write may append the first half of its bytes.
 #[derive(Drop)]
 pub struct MemSink {
     bytes: Vec<u8>,
@@ -15,9 +15,9 @@ pub struct MemSink {
 }
 
 impl MemSink {
-    ghost use Rattle.bar_outside.specs.MemSink.{stream_of, schedule_of};
+    ghost use Rattle.bar_outside.specs.Code.MemSink.{stream_of, schedule_of};
 
-    /// An empty sink. `fail` has the numbers of the writes that are to fail.
+    /// An empty sink. `fail` contains the numbers of the writes that are to fail.
     pub fn make(alloc: Global, fail: Vec<u64>) -> MemSink
         ensures stream { stream_of result ≡ record { reliable = fails_never (failing fail); bytes = []; faults = 0 } }
         ensures schedule { schedule_of result ≡ failing fail }
@@ -39,14 +39,14 @@ impl MemSink {
 
 impl Sink for MemSink {
     ghost use Rattle.bar_outside.specs.Stream.{Writes};
-    ghost use Rattle.bar_outside.specs.MemSink.{stream_of, schedule_of};
+    ghost use Rattle.bar_outside.specs.Code.MemSink.{stream_of, schedule_of};
 
     ghost stream = { stream_of };
 
     fn write(&mut self, bytes: &[u8]) -> Result<(), SinkFault>
         ensures writes { Writes bytes.now (stream_of self.old) (stream_of self.new) result }
         ensures counted { schedule_of self.new ≡ next_call (schedule_of self.old) }
-        // Failed exactly at the calls that are listed, but for want of memory
+        // Failed if and only if the call is listed, unless memory runs out
         ensures listed { IsTrue (fails_next (schedule_of self.old)) → result ≡ Err SinkFault.Failed }
         ensures only_listed { result ≡ Err SinkFault.Failed → IsTrue (fails_next (schedule_of self.old)) }
     {

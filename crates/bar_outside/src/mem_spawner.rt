@@ -1,16 +1,16 @@
 //! A spawner in memory.
 ghost use Rattle.std.specs.Prelude.{◌≡◌, ◌≤◌, ◌+◌, [], length, map, vec_capacity, string_bytes, slice_get, unwrap_or, pos, IsTrue, IfOk, Err, true};
-ghost use Rattle.bar_outside.specs.Schedule.{failing, next_call, fails_next, fails_never};
-ghost use Rattle.bar_outside.specs.MemCalls.{call_in};
-ghost use Rattle.bar_outside.specs.OpenChildren.{are_below, open_below};
+ghost use Rattle.bar_outside.specs.Code.Schedule.{failing, next_call, fails_next, fails_never};
+ghost use Rattle.bar_outside.specs.Code.MemCalls.{call_in};
+ghost use Rattle.bar_outside.specs.Code.OpenChildren.{are_below, open_below};
 
 use crate::mem_call::MemCall;
 use crate::schedule::{Schedule, is_listed, new_schedule};
 use crate::{ChildFault, Spawner};
 use std::alloc::{AllocError, Global};
 
-/// A spawner in memory: the children end with the statuses of a list, in the order of their starts, and with 0 behind it. The calls with the
-/// numbers given, counted from 1, fail.
+/// A spawner in memory. The children end with the statuses of a list, in the order of their starts, and with 0 after the list's end. The
+/// calls with the given numbers, counted from 1, fail.
 #[derive(Drop)]
 pub struct MemSpawner {
     alloc: Global,
@@ -26,10 +26,10 @@ pub struct MemSpawner {
 }
 
 impl MemSpawner {
-    ghost use Rattle.bar_outside.specs.MemSpawner.{children_of, schedule_of};
+    ghost use Rattle.bar_outside.specs.Code.MemSpawner.{children_of, schedule_of};
 
-    /// A spawner that has started nothing. `statuses` has the statuses that its children end with, and `fail` the numbers of the calls that are
-    /// to fail.
+    /// A spawner that has started nothing. `statuses` contains the statuses with which its children end, and `fail` the numbers of the
+    /// calls that are to fail.
     pub fn make(alloc: Global, statuses: Vec<i32>, fail: Vec<u64>) -> MemSpawner
         ensures children { children_of result ≡
             record { reliable = fails_never (failing fail); calls = []; faults = 0 } }
@@ -45,7 +45,7 @@ impl MemSpawner {
         }
     }
 
-    /// The calls that it took, in order. A refused start is none.
+    /// The calls that it accepted, in order. A refused start isn't one of them.
     pub fn calls(&self) -> &[MemCall]
         ensures { map call_in result.now ≡ (children_of self.now).calls }
     {
@@ -53,7 +53,7 @@ impl MemSpawner {
     }
 }
 
-// The same words once more.
+// A copy of the arguments.
 fn copied(alloc: Global, words: &[String]) -> Result<Vec<String>, AllocError>
     ensures { IfOk result (λ copies. map string_bytes copies.items ≡ map string_bytes words.now) }
 {
@@ -64,7 +64,7 @@ fn copied(alloc: Global, words: &[String]) -> Result<Vec<String>, AllocError>
     Ok(copies)
 }
 
-// The status at this place of a list, or 0 behind it.
+// The status at this index of a list, or 0 past its end.
 fn status_at(statuses: &[i32], child: usize) -> i32
     ensures { result ≡ unwrap_or (slice_get statuses.now child) (pos 0) }
 {
@@ -76,8 +76,8 @@ fn status_at(statuses: &[i32], child: usize) -> i32
 
 impl Spawner for MemSpawner {
     ghost use Rattle.std.specs.Prelude.{◌<◌};
-    ghost use Rattle.bar_outside.specs.Children.{IsRunning, Starts, Waits};
-    ghost use Rattle.bar_outside.specs.MemSpawner.{children_of, schedule_of, status_of};
+    ghost use Rattle.bar_outside.specs.Code.Children.{IsRunning, Starts, Waits};
+    ghost use Rattle.bar_outside.specs.Code.MemSpawner.{children_of, schedule_of, status_of};
 
     ghost children = { children_of };
 
@@ -95,7 +95,7 @@ impl Spawner for MemSpawner {
         let Ok(words) = copied(self.alloc, words) else {
             return Err(ChildFault::NoMemory);
         };
-        // for this call and the waits for all children
+        // room for this call and the waits for all children
         if self.calls.reserve(self.started + 2).is_err() {
             return Err(ChildFault::NoMemory);
         }
@@ -110,7 +110,7 @@ impl Spawner for MemSpawner {
     fn wait(&mut self, child: usize) -> Result<i32, ChildFault>
         requires { IsRunning child (children_of self.old).calls }
         ensures waits { Waits child (children_of self.old) (children_of self.new) result }
-        // the statuses in the order of the starts
+        // the statuses are in the order of the starts
         ensures ends { IfOk result (λ status. status ≡ status_of self.old child) }
         ensures counted { schedule_of self.new ≡ next_call (schedule_of self.old) }
         ensures listed { IsTrue (fails_next (schedule_of self.old)) → result ≡ Err ChildFault.Failed }

@@ -1,4 +1,4 @@
-/// What a link in memory is to give.
+/// An item that an in-memory link is to give.
 #[derive(Drop)]
 pub enum MemTaken {
     Tick,

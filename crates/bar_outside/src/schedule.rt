@@ -1,22 +1,22 @@
-//! Which calls of an object in memory are to fail.
+//! Which calls of an in-memory object are to fail.
 ghost use Rattle.std.specs.Prelude.{◌≡◌};
-ghost use Rattle.bar_outside.specs.Schedule.{failing, next_call, fails_next};
+ghost use Rattle.bar_outside.specs.Code.Schedule.{failing, next_call, fails_next};
 
-/// The calls that are to fail, by their numbers from 1, and how many there were.
+/// The numbers of the calls that are to fail, counted from 1, and the number of calls so far.
 #[derive(Drop)]
 pub struct Schedule {
     pub fail: Vec<u64>,
     pub calls: u64,
 }
 
-/// No call so far.
+/// A schedule with no call so far.
 pub fn new_schedule(fail: Vec<u64>) -> Schedule
     ensures { result ≡ failing fail }
 {
     Schedule { fail, calls: 0 }
 }
 
-/// Counts a call, and says whether it is to fail.
+/// Counts a call, and returns whether it is to fail.
 pub fn is_listed(schedule: &mut Schedule) -> bool
     ensures counted { schedule.new ≡ next_call schedule.old }
     ensures listed { result ≡ fails_next schedule.old }

@@ -1,4 +1,4 @@
-//! A peer that lies: what it sends by the rules is changed on its way out, and signed with its own key again.
+//! A peer that lies: what it sends by the rules is changed on its way out, and signed again with its own key.
 ghost use Rattle.std.specs.Prelude.{◌≡◌, ◌<◌};
 
 use bar_hss::SessionScheme;
@@ -7,24 +7,24 @@ use bar_seal::{Scheme, Verifier};
 use bar_told::{Log, Note};
 use std::alloc::{AllocError, Global};
 
-/// A lie.
+/// The kinds of lies.
 #[derive(Clone, Copy, Debug, PartialEq, Eq)]
 pub enum Lie {
     /// The key of a briefcase is another one.
     Key,
-    /// What a briefcase holds is another thing than its terms promise.
+    /// A briefcase holds something other than its terms promise.
     Case,
-    /// A REQUEST has two answers, of which the second tells another history.
+    /// A REQUEST gets two RESPONSEs, the second with another history.
     Answers,
-    /// A REQUEST and a QUERY go to another peer than the seed chooses.
+    /// A REQUEST and a QUERY are sent to another peer than the seed chooses.
     Partner,
-    /// The leaf that signed a CASE signs its KEY too.
+    /// The leaf that signed a CASE also signs its KEY.
     Leaf,
-    /// All rules are kept, but no KEY is given.
+    /// All rules are kept, except that no KEY is sent.
     Keys,
 }
 
-/// The kinds of datagrams that are changed, and where a datagram has its kind and its receiver.
+/// The kinds of datagrams that are changed, and the offsets of a datagram's kind and receiver.
 const REQUEST: u8 = 3;
 
 const RESPONSE: u8 = 4;
@@ -39,12 +39,12 @@ const KIND_AT: usize = 3;
 
 const TO_AT: usize = 14;
 
-/// Where a KEY has its key, and a RESPONSE the first update of its history.
+/// The offsets of the key in a KEY and of the byte with the history's first update in a RESPONSE.
 const KEY_AT: usize = 22;
 
 const HISTORY_AT: usize = 27;
 
-/// A peer that lies, of so many, and what signs for it.
+/// A peer that lies, the number of peers, and the liar's signature scheme.
 #[derive(Drop)]
 pub struct Liar {
     pub lie: Lie,
@@ -62,7 +62,7 @@ struct Told {
     is_second: bool,
 }
 
-/// The message with one of its bits changed, or as it is where it has no such byte.
+/// The message with one bit flipped, or unchanged if it has no byte at this offset.
 fn flipped(alloc: Global, message: &[u8], at: usize) -> Result<Vec<u8>, AllocError> {
     let mut changed = message.to_vec(alloc)?;
     if let Some(byte) = changed.get_mut(at) {
@@ -71,7 +71,7 @@ fn flipped(alloc: Global, message: &[u8], at: usize) -> Result<Vec<u8>, AllocErr
     Ok(changed)
 }
 
-/// The message to another receiver.
+/// The message with another receiver.
 fn readdressed(alloc: Global, message: &[u8], to: u16) -> Result<Vec<u8>, AllocError> {
     let mut changed = message.to_vec(alloc)?;
     if changed.len() >= TO_AT + 2 {
@@ -80,7 +80,7 @@ fn readdressed(alloc: Global, message: &[u8], to: u16) -> Result<Vec<u8>, AllocE
     Ok(changed)
 }
 
-/// The message with its signature under a leaf, or `None` where there is no such leaf.
+/// The message with its signature under a leaf, or `None` if there is no such leaf.
 fn signed<S: Scheme>(
     alloc: Global,
     scheme: &S,
@@ -97,7 +97,7 @@ fn signed<S: Scheme>(
     Ok(Some(bytes))
 }
 
-/// The message of a signed datagram, and the leaf that signed it. `None` where it has no room for a signature.
+/// The message of a signed datagram, and the leaf that signed it. `None` if the datagram is too short for a signature.
 fn split<'a, S: Scheme>(scheme: &S, bytes: &'a [u8]) -> Option<(&'a [u8], u32)> {
     let len = scheme.sig_len();
     if bytes.len() < len {
@@ -128,7 +128,7 @@ impl Liar {
         self.lie == Lie::Keys && bytes.get(KIND_AT) == Some(&KEY)
     }
 
-    /// Another peer than this one and the liar, where there are three.
+    /// A peer other than this one and the liar, if there are at least three.
     fn other(&self, peer: u16) -> u16 {
         let mut other = peer;
         for _ in 0..2 {
@@ -140,7 +140,7 @@ impl Liar {
         other
     }
 
-    /// What is sent in place of a datagram, or `None` where it is sent as it is.
+    /// What is sent in place of a datagram, or `None` if it is sent unchanged.
     fn told(&self, alloc: Global, to: u16, bytes: &[u8]) -> Result<Option<Told>, AllocError> {
         if bytes.len() <= KIND_AT {
             return Ok(None);
@@ -173,7 +173,7 @@ impl Liar {
     }
 }
 
-/// A link over which a peer lies, where there is a liar. It tells what it was asked to send, whatever it sends.
+/// A link over which a peer lies, if there is a liar. It reports what it was asked to send, whatever it sends.
 #[derive(Drop)]
 pub struct Lying<L> {
     alloc: Global,
@@ -185,7 +185,7 @@ pub struct Lying<L> {
 
 impl<L> Lying<L> {
     ghost use Rattle.std.specs.Prelude.{⊤, Err};
-    ghost use Rattle.bar_outside.specs.Causes.{HasCause};
+    ghost use Rattle.bar_outside.specs.Code.Causes.{HasCause};
 
     /// This link, with no fault so far.
     pub fn new(alloc: Global, link: L, liar: Option<Liar>) -> Self {
@@ -198,7 +198,7 @@ impl<L> Lying<L> {
         }
     }
 
-    /// Counts a fault of the link, unless it is want of memory.
+    /// Counts a fault of the link, unless memory ran out.
     fn fault(&mut self, fault: LinkFault) -> LinkFault
         ensures cause { HasCause {T = ⊤} LinkFault.Failed self.old.faults self.new.faults (Err result) }
         ensures same { self.new.log.events ≡ self.old.log.events }
@@ -213,7 +213,7 @@ impl<L> Lying<L> {
     }
 }
 
-/// Sends what is told in place of a datagram, and the datagram itself where that is to be sent too.
+/// Sends the lie in place of a datagram, and before it the datagram itself if both are to be sent.
 fn send_told<L: Link>(
     link: &mut L,
     to: u16,
@@ -230,7 +230,7 @@ fn send_told<L: Link>(
 }
 
 impl<L: Link> Lying<L> {
-    /// Sends a datagram, or what the liar tells in its place, which may be nothing.
+    /// Sends a datagram, or what the liar sends in its place, which may be nothing.
     fn send_lying(&mut self, to: u16, bytes: &[u8]) -> Result<(), LinkFault>
         ensures faults { self.new.faults ≡ self.old.faults }
         ensures same { self.new.log.events ≡ self.old.log.events }
@@ -262,7 +262,7 @@ impl<L: Link> Link for Lying<L> {
         }
     }
 
-    /// The end of a link is a fault here, since neither link of this program has one.
+    /// The end of a link is a fault here, because neither link of this program has an end.
     fn next(&mut self, buf: &mut [u8]) -> Result<Taken, LinkFault> {
         match self.link.next(buf) {
             Ok(Taken::Tick) => {

@@ -1,6 +1,6 @@
-//! Commands of `bar` over another link, or with lies in what a peer sends: `bar_party LINK LIE WORDS ..`. WORDS are those of a command, LINK is
-//! `udp` for the loopback network or `pipe` for a link over the standard streams, and LIE is `none` or the name of a lie. `bar` doesn't use it;
-//! tools/run-session and tools/simulate-session run it.
+//! Commands of `bar` over another link, or with lies in what a peer sends: `bar_party LINK LIE WORDS ..`. WORDS are a command line of
+//! `bar`, LINK is `udp` for the loopback network or `pipe` for a link over the standard streams, and LIE is `none` or the name of a lie.
+//! `bar` doesn't use it; tools/run-session and tools/simulate-session run it.
 #![tactic(auto)]
 
 mod lies;
@@ -18,10 +18,10 @@ use std::io::{BufReader, ErrorKind};
 use std::process::ExitCode;
 use std::{io, rt};
 
-/// The exit status if the words aren't those of this program, or if it can't begin.
+/// The exit status if the arguments aren't valid, or if the program can't start.
 const WORDS: u8 = 2;
 
-/// The word after an option.
+/// The argument after an option.
 fn value_of<'a>(words: &'a [String], option: &str) -> io::Result<&'a str> {
     let mut is_next = false;
     for word in words {
@@ -33,7 +33,7 @@ fn value_of<'a>(words: &'a [String], option: &str) -> io::Result<&'a str> {
     Err(io::Error::from(ErrorKind::InvalidInput))
 }
 
-/// The liar of a peer's words, who signs with its key.
+/// The liar for a peer's arguments, which signs with the peer's key.
 fn liar_of<R: rt::Files + AllocGlobal>(rt: &R, lie: Lie, words: &[String]) -> io::Result<Liar> {
     let alloc = rt.alloc();
     let text = read_file(rt, value_of(words, "--session")?)?;
@@ -52,7 +52,7 @@ fn liar_of<R: rt::Files + AllocGlobal>(rt: &R, lie: Lie, words: &[String]) -> io
     })
 }
 
-/// Runs a command over a link, and answers its exit status.
+/// Runs a command over a link, and returns its exit status.
 fn run_over<L: Link + Drop>(rt: &HostRuntime, words: &[String], link: L, liar: Option<Liar>) -> u8 {
     let mut files = RealFiles::new(rt);
     let mut spawn = RealSpawner::new(rt);
@@ -70,7 +70,7 @@ fn run_over<L: Link + Drop>(rt: &HostRuntime, words: &[String], link: L, liar: O
     )
 }
 
-/// Does what the words say.
+/// Runs what the arguments ask for.
 fn run_words(rt: &HostRuntime, words: &[String]) -> io::Result<u8> {
     let [link, lie, words @ ..] = words else {
         return Err(io::Error::from(ErrorKind::InvalidInput));

@@ -1,4 +1,4 @@
-//! A link over two streams of bytes. Whoever holds their other ends has the time and the network in hand: it gives each input, and is told
+//! A link over two streams of bytes. Whoever holds their other ends controls the time and the network: it supplies each input, and learns
 //! when the next one is asked for and what was sent.
 ghost use Rattle.std.specs.Prelude.{◌≡◌, ◌≤◌, length, IfOk, IfSome};
 ghost use Rattle.bar_outside.specs.Wire.{largest_packet};
@@ -8,18 +8,18 @@ use bar_told::{Log, Note};
 use std::io;
 use std::io::{ErrorKind, Read, Write};
 
-/// What begins an entry that comes: a tick, or a datagram, whose length in two bytes and whose bytes follow.
+/// The first byte of an incoming entry: a tick, or a datagram, whose length in two bytes and whose bytes follow.
 const TICK: u8 = 1;
 
 const DATAGRAM: u8 = 2;
 
-/// What begins an entry that goes: the next input is asked for, or a datagram was sent, whose receiver and length in two bytes each and whose
-/// bytes follow.
+/// The first byte of an outgoing entry: the next input is asked for, or a datagram was sent. The datagram's receiver and length, two bytes
+/// each, and its bytes follow.
 const ASKED: u8 = 1;
 
 const SENT: u8 = 2;
 
-/// A link over two streams. It tells what came and what was handed over, and counts its faults.
+/// A link over two streams. It reports its inputs and what was sent, and counts its faults.
 #[derive(Drop)]
 pub struct PipeLink<R, W> {
     input: R,
@@ -28,7 +28,7 @@ pub struct PipeLink<R, W> {
     faults: u64,
 }
 
-/// Asks for the next input, and takes it: a tick is `None`.
+/// Asks for the next input, and reads it. A tick is `None`.
 fn take<R: Read, W: Write>(
     input: &mut R,
     output: &mut W,
@@ -57,7 +57,7 @@ fn take<R: Read, W: Write>(
     }
 }
 
-/// Tells what was sent.
+/// Reports a datagram that was sent.
 fn tell<W: Write>(output: &mut W, to: u16, bytes: &[u8]) -> io::Result<()> {
     let Ok(len) = u16::try_from(bytes.len()) else {
         return Err(io::Error::from(ErrorKind::InvalidInput));
@@ -71,7 +71,7 @@ fn tell<W: Write>(output: &mut W, to: u16, bytes: &[u8]) -> io::Result<()> {
 
 impl<R, W> PipeLink<R, W> {
     ghost use Rattle.std.specs.Prelude.{⊤, Err};
-    ghost use Rattle.bar_outside.specs.Causes.{HasCause};
+    ghost use Rattle.bar_outside.specs.Code.Causes.{HasCause};
 
     /// A link over these streams, with no fault so far.
     pub fn new(input: R, output: W) -> Self {
@@ -83,7 +83,7 @@ impl<R, W> PipeLink<R, W> {
         }
     }
 
-    /// Counts a fault, unless it is want of memory.
+    /// Counts a fault, unless memory ran out.
     fn fault(&mut self, error: &io::Error) -> LinkFault
         ensures cause { HasCause {T = ⊤} LinkFault.Failed self.old.faults self.new.faults (Err result) }
         ensures same { self.new.log.events ≡ self.old.log.events }
@@ -101,7 +101,7 @@ impl<R: Read, W: Write> Link for PipeLink<R, W> {
 
     ghost wire = { λ link. wire_by link.log.events link.faults };
 
-    /// There is nothing to bind, and the time comes from elsewhere.
+    /// There is nothing to bind, and the other end supplies the time.
     fn bind(&mut self, me: u16, port: u16, begin_ms: u64, tick_ms: u32) -> Result<(), LinkFault> {
         self.log = self.log.then(&Note::Bound(me, port, begin_ms, tick_ms));
         Ok(())

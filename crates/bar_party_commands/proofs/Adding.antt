@@ -1,4 +1,4 @@
--- Runs that can be done: what they add to is created before.
+-- A run appends only to files that were created before.
 use Rattle.std.proofs.Common.{◌≡◌, ◌⊎◌, ℕ, ◌+◌, List, [], ◌∷◌, ◌++◌, length, Bool, true, false, if◌then◌else◌, Option, None, Some}
 use Rattle.std.proofs.Common.{IsTrue, refl, subst, inl, inr}
 use Rattle.std.specs.List.{flat_map, range_with_len}
@@ -17,13 +17,13 @@ use Rattle.bar_findings.specs.Findings.{findings_actions}
 use Rattle.bar_findings.proofs.Holding.{can-write}
 use Rattle.bar_core.specs.Rules.{Rules}
 use Rattle.bar_node.specs.Runs.{closing, due_if, found_after, input_of, is_ended, node_from, node_plan, run_if, taken_of}
-use Rattle.bar_node.specs.Turns.{kept, node_layout, sent, turn, turns}
+use Rattle.bar_node.specs.Code.Turns.{kept, node_layout, sent, turn, turns}
 use Rattle.bar_party_commands.specs.CasterPlan as caster
 use Rattle.bar_party_commands.specs.PeerPlan as peer
 use Rattle.bar_party_commands.specs.Running.{place_of, spending}
 use Rattle.bar_party_commands.specs.Summaries.{at_end, caster_summary, evicted_word, evidence_word, peer_summary, shown_if, shown_parties}
 
--- ---- actions that add to some files alone
+-- ---- actions that append only to some files
 
 abbrev AddTo : (List ℕ → Type 0) → List Action → Type 0
 AddTo P [] = Unit {0}
@@ -33,7 +33,7 @@ AddTo P (append path bytes ∷ others) = P path × AddTo P others
 AddTo P (show bytes ∷ others) = AddTo P others
 AddTo P (link call ∷ others) = AddTo P others
 
--- they can be done where these files are created
+-- if these files are created, the actions can be done
 can-add : (P : List ℕ → Type 0) (acts : List Action) (here : CreatedFiles) → ((path : List ℕ) → P path → IsTrue (here path)) →
     AddTo P acts → CanRun acts here
 can-add P [] here made add = tt
@@ -59,7 +59,7 @@ add-each P f (x ∷ xs) h = add-append P (f x) (flat_map f xs) (h x) (add-each P
 -- ---- a node's run
 
 module _ (recording played : Option (List ℕ)) (r : Rules) where
-  -- the files that it adds to
+  -- the files to which it appends
   abbrev IsKept : List ℕ → Type 0
   IsKept path = (recording ≡ Some path) ⊎ (played ≡ Some path)
 
@@ -109,7 +109,7 @@ module _ (recording played : Option (List ℕ)) (r : Rules) where
       (can-end (is_ended r given) found (taken_of r given) (created_after front here)
       (λ path h. created-stays front here path (made path h)))
 
-  -- ---- and what comes before and behind it
+  -- ---- what precedes and follows it
 
   can-show : (b : Bool) (lines : List Action) (here : CreatedFiles) → ((P : List ℕ → Type 0) → AddTo P lines) →
       CanRun (if b then lines else []) here

@@ -1,4 +1,4 @@
--- What stands behind the binding of a broadcaster's link, and before it.
+-- What holds before and after a broadcaster's link is bound.
 use Rattle.std.proofs.Common.{◌≡◌, ◌⊎◌, ◌==◌, ℕ, List, [], true, Some, ◌∙◌, inl, inr, IsTrue, refl, subst}
 use Rattle.std.proofs.lemmas.Bool.{cases_Bool, eqb-true}
 use Rattle.bar_outside.specs.Disk.{Content, created}
@@ -20,19 +20,19 @@ pub is-of : AreHeld → (names : CasterNames) (content : Content) (s : SessionDa
     CasterAccepted names content s k stream → IsCasterOf names content s k stream
 is-of held names content s k stream a = record { accepted = a; fits = fits-here held s true a.bytes k a.is }
 
--- the key file at the binding
+-- the key file when the link is bound
 key-at : (names : CasterNames) (s : SessionData) (k : Secrets) (content : Content) →
     content_after (spending names.key s k) content names.key ≡ Some (spent_text s k)
 key-at names s k content = appended-same (created content names.key) names.key (spent_text s k) [] (put_at-same content names.key [])
 
--- the key file is none that the run writes
+-- the run doesn't write the key file
 key-apart : (names : CasterNames) → IsApart names.key names.found → IsRunFile names names.key → ⊥
 key-apart names own (inl e) = own.table e
 key-apart names own (inr p) = own.evidence p.0 p.1
 
--- ---- before the binding, and behind it
+-- ---- before and after the binding
 
--- The actions of a broadcaster were done behind the binding.
+-- The link was bound, and a part of the broadcaster's following actions was done.
 abbrev pub IsCasterBehind : CasterNames → SessionData → Secrets → List ℕ → List Arrival → List Action → Type 0
 IsCasterBehind names s k stream given done =
     IsBehind (spending names.key s k) (place_of names.begin_ms s k) (caster_run names s k stream given) (caster_last s k stream given) done
@@ -66,7 +66,7 @@ module _ (held : AreHeld) (names : CasterNames) (given : List Arrival) (old new 
       × IsCasterOf names old.files.content s k stream
       × IsBound names s k old new
 
-  -- at 0 it is bound and the key is spent
+  -- at 0 the link is bound and the key is spent
   bound-at_zero : Outcome names given old new 0 → IsSpent
   bound-at_zero o =
       let b = accepted-zero names given old new o in
@@ -97,7 +97,7 @@ module _ (held : AreHeld) (names : CasterNames) (given : List Arrival) (old new 
         | inr behind ↦ inr (s, k, stream, of, is-bound names s k stream given d.ran told behind)
       ]
 
-  -- whatever the status, the link wasn't used, or it is bound and the key is spent
+  -- at every status, the link wasn't used, or it is bound and the key is spent
   pub bound-or_not : (status : ℕ) → Outcome names given old new status → IsBoundOrUnused names old new status
   bound-or_not status o = elim (cases_Bool (status == 0)) [
     | inl zero ↦ inr (bound-at_zero (subst (Outcome names given old new) (eqb-true status 0 zero) o))

@@ -1,4 +1,4 @@
--- How far a broadcaster came, from how it ended.
+-- How far a broadcaster got, derived from its status.
 use Rattle.std.proofs.Common.{◌≡◌, ◌⊎◌, ◌<◌, ◌==◌, ℕ, Bool, List, true, false, nat_le, length, cond, None, Some, Result, Ok, Err, refl, sym, ap, ◌∙◌, inl, inr, IsTrue}
 use Rattle.std.proofs.lemmas.Bool.{leb-false}
 use Rattle.bar_outside.specs.Disk.{Content}
@@ -29,7 +29,7 @@ use Rattle.bar_party_commands.proofs.Printed.{caster-prints, end-prints}
 use Rattle.bar_node.proofs.RunActions.{of-run}
 use Rattle.bar_party_commands.proofs.RunSplits.{AreOfKinds, touched-binding}
 
--- ---- a stream fits, or is longer than the room
+-- ---- a stream fits, or is too long for the session
 
 by-room : (s : SessionData) (bytes : List ℕ) →
     (stream_in s bytes ≡ Ok bytes) ⊎ ((stream_in s bytes ≡ Err (length bytes)) × (room_of s < length bytes))
@@ -41,21 +41,21 @@ by-room s bytes = by_test (nat_le (length bytes) (room_of s)) refl
     by_test false e =
         inr (ap (λ b. cond {A = Result (List ℕ) ℕ} b (Ok bytes) (Err (length bytes))) e, leb-false (length bytes) (room_of s) e)
 
--- what is accepted is the stream itself
+-- the stream that is accepted is the file's content
 itself : (s : SessionData) (bytes stream : List ℕ) → stream_in s bytes ≡ Ok stream → bytes ≡ stream
 itself s bytes stream e = elim (by-room s bytes) [
   | inl fits ↦ let same : ◌≡◌ {A = Result (List ℕ) ℕ} (Ok bytes) (Ok stream) = sym fits ∙ e in cc
   | inr long ↦ let same : ◌≡◌ {A = Result (List ℕ) ℕ} (Err (length bytes)) (Ok stream) = sym long.0 ∙ e in absurd cc
 ]
 
--- and what is refused is longer
+-- a stream that is refused is too long
 longer : (s : SessionData) (bytes : List ℕ) (have : ℕ) → stream_in s bytes ≡ Err have → room_of s < length bytes
 longer s bytes have e = elim (by-room s bytes) [
   | inl fits ↦ let same : ◌≡◌ {A = Result (List ℕ) ℕ} (Ok bytes) (Err have) = sym fits ∙ e in absurd cc
   | inr long ↦ long.1
 ]
 
--- ---- how far it came
+-- ---- how far it got
 
 -- all three files are accepted
 pub record AreAccepted (names : CasterNames) (content : Content) : Type 0 where
@@ -69,7 +69,7 @@ module _ (names : CasterNames) (given : List Arrival) (content : Content) where
   abbrev pub last : AreAccepted names content → Plan
   last a = caster_end names given a.session a.secrets a.stream
 
-  -- what was refused, by the status
+  -- the cause of a refusal, by the status
   abbrev pub Causes : ℕ → Type 0
   Causes status =
       cause_at (status == 4) (SessionRefused names content)
@@ -105,11 +105,11 @@ module _ (names : CasterNames) (given : List Arrival) (content : Content) where
         accepted = all-accepted s k stream has key there;
       }))))
 
--- nothing was changed, for a stop or a refusal; or all three files were accepted, and the run went so
+-- nothing was changed, because of a stop or a refusal; or all three files were accepted, and the run got this far
 abbrev pub Outcome : CasterNames → List Arrival → Outside → Outside → ℕ → Type 0
 Outcome names given old new status = Came (Causes names given old.files.content) (last names given old.files.content) old new status
 
--- what is accepted comes to the end of what is behind it
+-- if a file is accepted, the command ends at the end of the following stages
 module _ (names : CasterNames) (given : List Arrival) (content : Content) (end : Plan) where
   behind-session : (s : SessionData) → HasSession names.session content s → ComesTo (caster_key_stages names given s) content end →
       ComesTo (caster_stages names given) content end
@@ -136,7 +136,7 @@ module _ (names : CasterNames) (given : List Arrival) (old new : Outside) (statu
       (λ a. no-refusal (is_ended (rules_by a.session a.secrets a.stream) given) status other behind) o in
       (r.1, as-untouched status old new r.0)
 
-  -- what is refused has its status, unless something stops the command
+  -- a refusal has its status, unless something stops the command
   module _ (order : GoesInOrder (caster_stages names given) old new status) where
     pub stopped-session : SessionRefused names content → UnlessStopped 4 status
     stopped-session bad =
@@ -167,14 +167,14 @@ pub accepted-zero : (names : CasterNames) (given : List Arrival) (old new : Outs
 accepted-zero names given old new =
     accepted-at (Causes names given old.files.content) (last names given old.files.content) old new 0 refl (λ none. none)
 
--- ---- where all three files are accepted
+-- ---- if all three files are accepted
 
 module _ (names : CasterNames) (given : List Arrival) (content : Content) (s : SessionData) (k : Secrets) (stream : List ℕ)
     (a : CasterAccepted names content s k stream) where
   abbrev end : Plan
   end = caster_end names given s k stream
 
-  -- the stages come to the end of the run
+  -- the stages lead to the end of the run
   pub accepted-comes : ComesTo (caster_stages names given) content end
   accepted-comes =
       behind-session names given content end s a.in_session
@@ -186,7 +186,7 @@ module _ (names : CasterNames) (given : List Arrival) (content : Content) (s : S
   pub accepted-status : (caster_plan names given content).status ≡ status_of (rules_by s k stream) given
   accepted-status = status-comes (caster_stages names given) content end accepted-comes
 
--- and it came as far in the run
+-- it got just as far in the run
 pub accepted-reached : (names : CasterNames) (given : List Arrival) (s : SessionData) (k : Secrets) (stream : List ℕ) (old new : Outside) →
     CasterAccepted names old.files.content s k stream → HasReached (caster_plan names given old.files.content).actions given old new →
     HasReached (caster_actions names s k stream given) given old new
@@ -194,14 +194,14 @@ accepted-reached names given s k stream old new a =
     reached-end (caster_stages names given) old.files.content (caster_end names given s k stream) given old new
     (accepted-comes names given old.files.content s k stream a)
 
--- the link was asked no further than up to the end of the run
+-- the link wasn't asked after the end of the run
 pub accepted-asked : (names : CasterNames) (given : List Arrival) (content : Content) (s : SessionData) (k : Secrets) (stream : List ℕ) →
     CasterAccepted names content s k stream → AsksNoFurther (λ front. caster_plan names front content) given →
     AsksToTheEnd (rules_by s k stream) given
 accepted-asked names given content s k stream a asked front next rest e =
     not-ended (is_ended (rules_by s k stream) front) (sym (accepted-status names front content s k stream a) ∙ asked front next rest e)
 
--- ---- the actions of a broadcaster, by kinds
+-- ---- the actions of a broadcaster, by kind
 
 -- a file that is written before the binding
 abbrev pub IsFirstFile : CasterNames → List ℕ → Type 0
@@ -211,7 +211,7 @@ IsFirstFile names path = path ≡ names.key
 abbrev pub IsRunFile : CasterNames → List ℕ → Type 0
 IsRunFile names path = IsFindingName names.found path
 
--- what is printed at its end
+-- what is printed at the end of the run
 abbrev pub caster_last : SessionData → Secrets → List ℕ → List Arrival → List Action
 caster_last s k stream given = at_end caster_summary (rules_by s k stream) given
 
@@ -224,7 +224,7 @@ caster-kinds names s k stream given = record {
   lasts = end-prints caster_summary caster-prints (rules_by s k stream) given;
 }
 
--- which files it touches
+-- the files that it touches
 touched : (names : CasterNames) (s : SessionData) (k : Secrets) (stream : List ℕ) (given : List Arrival) (path : List ℕ) →
     Touches (caster_actions names s k stream given) path → IsCasterFile names path
 touched names s k stream given path t = touched-binding (caster-kinds names s k stream given) (place_of names.begin_ms s k) path t

@@ -1,4 +1,4 @@
--- What a broadcaster has done that ended, or was stopped.
+-- What a broadcaster did that completed or was stopped.
 use Rattle.std.proofs.Common.{◌≡◌, ◌≢◌, ℕ, List, ◌++◌, [], cond, Option, None, refl, ap, ◌∙◌, inl, inr, IsTrue, arith}
 use Rattle.bar_outside.specs.Wire.{Arrival}
 use Rattle.bar_outside.specs.Plan.{Action, Outside, Ran, Touches, shown}
@@ -7,9 +7,9 @@ use Rattle.bar_seeds.specs.declared.secrets.Secrets.{Secrets}
 use Rattle.bar_session.specs.SessionData.{SessionData}
 use Rattle.bar_core.specs.Rules.{Rules}
 use Rattle.bar_rules.specs.Members.{member_by}
-use Rattle.bar_caster.specs.Runs.{RulesSend}
+use Rattle.bar_caster.specs.Code.Runs.{RulesSend}
 use Rattle.bar_record.specs.Pacing.{IsFew}
-use Rattle.bar_node.specs.Effects.{received_in}
+use Rattle.bar_node.specs.Code.Effects.{received_in}
 use Rattle.bar_node.specs.Runs.{IsGiven, has_end, inputs_of, is_ended, node_plan, taken_of}
 use Rattle.bar_node.specs.Stops.{HasRun, StoppedSending}
 use Rattle.bar_node.proofs.Doing.{received-run}
@@ -25,13 +25,13 @@ use Rattle.bar_party_commands.proofs.Printed.{front-at_end}
 use Rattle.bar_party_commands.proofs.RunLaws.{Finds, WholeSent, found-at, others-at}
 use Rattle.bar_party_commands.proofs.RunSplits.{begun-first, ended-behind, front-behind, outside-at, printed-behind, ran-behind, received-behind}
 
--- no other file is changed by the spending of the key
+-- spending the key changes no other file
 unspent : (key : List ℕ) (s : SessionData) (k : Secrets) (path : List ℕ) → path ≢ key → Touches (spending key s k) path → ⊥
 unspent key s k path not_key (inl e) = not_key e
 unspent key s k path not_key (inr (inl e)) = not_key e
 unspent key s k path not_key (inr (inr none)) = none
 
--- what holds of each run that was done in part
+-- a property of every run that was done in part
 abbrev pub PartSent : Type 0
 PartSent =
     (recording played : Option (List ℕ)) (found : List ℕ) (r : Rules) (given : List Arrival) (old new : Outside) →
@@ -40,7 +40,7 @@ PartSent =
 module _ (held : AreHeld) (few : IsFew) (names : CasterNames) (given : List Arrival) (old new : Outside) (heard : HasHeard given old new)
     (told : IsTrue new.files.told) (reached : HasReached (caster_plan names given old.files.content).actions given old new)
     (asked : AsksNoFurther (λ front. caster_plan names front old.files.content) given) where
-  -- the outside at the binding
+  -- the outside when the link was bound
   abbrev bound : SessionData → Secrets → Outside
   bound s k = outside-at (spending names.key s k) (place_of names.begin_ms s k) old new
 
@@ -55,7 +55,7 @@ module _ (held : AreHeld) (few : IsFew) (names : CasterNames) (given : List Arri
       few = few r.last (inputs_of given);
     }
 
-    -- stopped behind the binding
+    -- stopped after the binding
     module _ {done : List Action} (ran : Ran done old new) (received : received_in done ≡ given)
         (b : IsCasterBehind names s k stream given done) where
       received-more : received_in b.more ≡ given
@@ -76,7 +76,7 @@ module _ (held : AreHeld) (few : IsFew) (names : CasterNames) (given : List Arri
           let p = sent None None names.found r given (bound s k) new has in
           record { cut = p.cut; sent = p.sent; front = p.front; is = p.is }
 
-  -- whatever the status
+  -- at every status
   pub caster-stands : PartSent → (status : ℕ) → Outcome names given old new status → CasterStands names old new
   caster-stands sent status (inl stayed) = inl (as-untouched status old new stayed.0)
   caster-stands sent status (inr b) =
@@ -105,7 +105,7 @@ module _ (held : AreHeld) (few : IsFew) (names : CasterNames) (given : List Arri
             }))
       ]
 
-  -- at 0 all was done
+  -- at 0 everything was done
   pub caster-done : AreInRange → RulesSend → WholeSent → Finds → Outcome names given old new 0 → CasterDone names old new
   caster-done ranged sends all_sent finds o =
       let b = accepted-zero names given old new o in

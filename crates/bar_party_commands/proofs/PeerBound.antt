@@ -1,4 +1,4 @@
--- What stands behind the binding of a peer's link, and before it.
+-- What holds before and after a peer's link is bound.
 use Rattle.std.proofs.Common.{◌≡◌, ◌⊎◌, ◌==◌, ℕ, List, [], false, Some, ◌∙◌, inl, inr, IsTrue, refl, subst}
 use Rattle.std.proofs.lemmas.Bool.{cases_Bool, eqb-true}
 use Rattle.bar_outside.specs.Disk.{Content, appended, created}
@@ -20,7 +20,7 @@ pub is-of : AreHeld → (names : PeerNames) (content : Content) (s : SessionData
     IsPeerOf names content s k
 is-of held names content s k a = record { accepted = a; fits = fits-here held s false a.bytes k a.is }
 
--- ---- what the files hold at the binding
+-- ---- what the files hold when the link is bound
 
 module _ (names : PeerNames) (own : HasOwnNames names) (s : SessionData) (k : Secrets) (content : Content) where
   abbrev text : List ℕ
@@ -57,16 +57,16 @@ module _ (names : PeerNames) (own : HasOwnNames names) (s : SessionData) (k : Se
   pub recorded-at : at-binding names.recording ≡ Some head
   recorded-at = appended-same with-recording names.recording head [] (put_at-same with-played names.recording [])
 
--- the key file is none that the run writes
+-- the run doesn't write the key file
 key-apart : (names : PeerNames) → HasOwnNames names → IsRunFile names names.key → ⊥
 key-apart names own (inl e) = own.not_recording e
 key-apart names own (inr (inl e)) = own.not_played e
 key-apart names own (inr (inr (inl e))) = own.not_found.table e
 key-apart names own (inr (inr (inr p))) = own.not_found.evidence p.0 p.1
 
--- ---- before the binding, and behind it
+-- ---- before and after the binding
 
--- The actions of a peer were done behind the binding.
+-- The link was bound, and a part of the peer's following actions was done.
 abbrev pub IsPeerBehind : PeerNames → SessionData → Secrets → List Arrival → List Action → Type 0
 IsPeerBehind names s k given done =
     IsBehind (before_binding names s k) (place_of names.begin_ms s k) (peer_run names s k given) (peer_last s k given) done
@@ -94,7 +94,7 @@ module _ (held : AreHeld) (names : PeerNames) (given : List Arrival) (old new : 
   abbrev IsSpent : Type 0
   IsSpent = (s : SessionData) × (k : Secrets) × IsPeerOf names old.files.content s k × IsBound names s k old new
 
-  -- at 0 it is bound and the key is spent
+  -- at 0 the link is bound and the key is spent
   bound-at_zero : Outcome names given old new 0 → IsSpent
   bound-at_zero o =
       let b = accepted-zero names given old new o in
@@ -121,7 +121,7 @@ module _ (held : AreHeld) (names : PeerNames) (given : List Arrival) (old new : 
         | inr behind ↦ inr (s, k, of, is-bound names s k given d.ran told behind)
       ]
 
-  -- whatever the status, the link wasn't used, or it is bound and the key is spent
+  -- at every status, the link wasn't used, or it is bound and the key is spent
   pub bound-or_not : (status : ℕ) → Outcome names given old new status → IsBoundOrUnused names old new status
   bound-or_not status o = elim (cases_Bool (status == 0)) [
     | inl zero ↦ inr (bound-at_zero (subst (Outcome names given old new) (eqb-true status 0 zero) o))

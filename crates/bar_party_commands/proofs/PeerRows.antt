@@ -1,4 +1,4 @@
--- How far a peer came, from how it ended.
+-- How far a peer got, derived from its status.
 use Rattle.std.proofs.Common.{◌≡◌, ◌⊎◌, ◌==◌, ℕ, List, false, Some, refl, sym, ap, ◌∙◌, inl, inr, IsTrue}
 use Rattle.bar_outside.specs.Disk.{Content}
 use Rattle.bar_outside.specs.Ends.{UnlessStopped}
@@ -26,7 +26,7 @@ use Rattle.bar_node.proofs.RunActions.{of-run}
 use Rattle.bar_party_commands.proofs.RunSplits.{AreOfKinds, touched-binding}
 use Rattle.bar_party_commands.proofs.Printed.{end-prints, peer-prints}
 
--- ---- how far it came
+-- ---- how far it got
 
 -- both files are accepted
 pub record AreAccepted (names : PeerNames) (content : Content) : Type 0 where
@@ -39,7 +39,7 @@ module _ (names : PeerNames) (given : List Arrival) (content : Content) where
   abbrev pub last : AreAccepted names content → Plan
   last a = peer_end names given a.session a.secrets
 
-  -- what was refused, by the status
+  -- the cause of a refusal, by the status
   abbrev pub Causes : ℕ → Type 0
   Causes status = cause_at (status == 4) (SessionRefused names content) (cause_at (status == 5) (KeyRefused names content) ⊥)
 
@@ -54,7 +54,7 @@ module _ (names : PeerNames) (given : List Arrival) (content : Content) where
         accepted = record { in_session = has; bytes = key.bytes; read = key.read; is = key.is };
       })))
 
--- nothing was changed, for a stop or a refusal; or both files were accepted, and the run went so
+-- nothing was changed, because of a stop or a refusal; or both files were accepted, and the run got this far
 abbrev pub Outcome : PeerNames → List Arrival → Outside → Outside → ℕ → Type 0
 Outcome names given old new status = Came (Causes names given old.files.content) (last names given old.files.content) old new status
 
@@ -75,7 +75,7 @@ module _ (names : PeerNames) (given : List Arrival) (old new : Outside) (status 
       (λ a. no-refusal (is_ended (rules_by a.session a.secrets) given) status other behind) o in
       (r.1, as-untouched status old new r.0)
 
-  -- what is refused has its status, unless something stops the command
+  -- a refusal has its status, unless something stops the command
   module _ (order : GoesInOrder (peer_stages names given) old new status) where
     pub stopped-session : SessionRefused names content → UnlessStopped 4 status
     stopped-session bad =
@@ -95,14 +95,14 @@ pub accepted-zero : (names : PeerNames) (given : List Arrival) (old new : Outsid
 accepted-zero names given old new =
     accepted-at (Causes names given old.files.content) (last names given old.files.content) old new 0 refl (λ none. none)
 
--- ---- where both files are accepted
+-- ---- if both files are accepted
 
 module _ (names : PeerNames) (given : List Arrival) (content : Content) (s : SessionData) (k : Secrets) (a : PeerAccepted names content s k)
   where
     abbrev end : Plan
     end = peer_end names given s k
 
-    -- the stages come to the end of the run
+    -- the stages lead to the end of the run
     pub accepted-comes : ComesTo (peer_stages names given) content end
     accepted-comes =
         stage-comes names.session session_of 4 session_refused (peer_key_stages names given) content s end a.in_session
@@ -113,7 +113,7 @@ module _ (names : PeerNames) (given : List Arrival) (content : Content) (s : Ses
     pub accepted-status : (peer_plan names given content).status ≡ status_of (rules_by s k) given
     accepted-status = status-comes (peer_stages names given) content end accepted-comes
 
--- and it came as far in the run
+-- it got just as far in the run
 pub accepted-reached : (names : PeerNames) (given : List Arrival) (s : SessionData) (k : Secrets) (old new : Outside) →
     PeerAccepted names old.files.content s k → HasReached (peer_plan names given old.files.content).actions given old new →
     HasReached (peer_actions names s k given) given old new
@@ -121,13 +121,13 @@ accepted-reached names given s k old new a =
     reached-end (peer_stages names given) old.files.content (peer_end names given s k) given old new
     (accepted-comes names given old.files.content s k a)
 
--- the link was asked no further than up to the end of the run
+-- the link wasn't asked after the end of the run
 pub accepted-asked : (names : PeerNames) (given : List Arrival) (content : Content) (s : SessionData) (k : Secrets) →
     PeerAccepted names content s k → AsksNoFurther (λ front. peer_plan names front content) given → AsksToTheEnd (rules_by s k) given
 accepted-asked names given content s k a asked front next rest e =
     not-ended (is_ended (rules_by s k) front) (sym (accepted-status names front content s k a) ∙ asked front next rest e)
 
--- ---- the actions of a peer, by kinds
+-- ---- the actions of a peer, by kind
 
 -- a file that is written before the binding
 abbrev pub IsFirstFile : PeerNames → List ℕ → Type 0
@@ -137,7 +137,7 @@ IsFirstFile names path = (path ≡ names.key) ⊎ ((path ≡ names.played) ⊎ (
 abbrev pub IsRunFile : PeerNames → List ℕ → Type 0
 IsRunFile names path = (path ≡ names.recording) ⊎ ((path ≡ names.played) ⊎ IsFindingName names.found path)
 
--- what is printed at its end
+-- what is printed at the end of the run
 abbrev pub peer_last : SessionData → Secrets → List Arrival → List Action
 peer_last s k given = at_end peer_summary (rules_by s k) given
 
@@ -151,7 +151,7 @@ peer-kinds names s k given = record {
   lasts = end-prints peer_summary peer-prints (rules_by s k) given;
 }
 
--- which files it touches
+-- the files that it touches
 touched : (names : PeerNames) (s : SessionData) (k : Secrets) (given : List Arrival) (path : List ℕ) →
     Touches (peer_actions names s k given) path → IsPeerFile names path
 touched names s k given path t =

@@ -1,4 +1,4 @@
--- What a peer has done that ended, or was stopped.
+-- What a peer did that completed or was stopped.
 use Rattle.std.proofs.Common.{◌≡◌, ◌≢◌, ◌<◌, ◌^◌, ℕ, List, [], ◌++◌, cond, Some, refl, ap, ◌∙◌, inl, inr, IsTrue, arith}
 use Rattle.bar_outside.specs.Wire.{Arrival}
 use Rattle.bar_outside.specs.Plan.{Action, Outside, Ran, Touches, shown}
@@ -10,9 +10,9 @@ use Rattle.bar_wire.specs.Inputs.{Input}
 use Rattle.bar_core.specs.Rules.{Rules}
 use Rattle.bar_rules.specs.Member.{Member}
 use Rattle.bar_rules.specs.Members.{member_by}
-use Rattle.bar_peer.specs.Runs.{RulesPlay, RulesSend}
+use Rattle.bar_peer.specs.Code.Runs.{RulesPlay, RulesSend}
 use Rattle.bar_record.specs.Pacing.{IsFew}
-use Rattle.bar_node.specs.Effects.{received_in}
+use Rattle.bar_node.specs.Code.Effects.{received_in}
 use Rattle.bar_node.specs.Runs.{IsGiven, has_end, inputs_of, is_ended, node_plan, taken_of}
 use Rattle.bar_node.specs.Stops.{AreApart, DonePeer, HasRun as HasRunSoFar, StoppedPeer}
 use Rattle.bar_node.proofs.Doing.{received-run}
@@ -29,7 +29,7 @@ use Rattle.bar_party_commands.proofs.Printed.{front-at_end}
 use Rattle.bar_party_commands.proofs.RunLaws.{Finds, WholeSent, found-at, others-at}
 use Rattle.bar_party_commands.proofs.RunSplits.{begun-first, ended-behind, front-behind, outside-at, printed-behind, ran-behind, received-behind}
 
--- no other file is begun before the binding
+-- no other file is written before the binding
 unbegun : (names : PeerNames) (s : SessionData) (k : Secrets) (path : List ℕ) → path ≢ names.key → path ≢ names.played → path ≢ names.recording →
     Touches (before_binding names s k) path → ⊥
 unbegun names s k path not_key not_played not_recording (inl e) = not_key e
@@ -39,7 +39,7 @@ unbegun names s k path not_key not_played not_recording (inr (inr (inr (inl e)))
 unbegun names s k path not_key not_played not_recording (inr (inr (inr (inr (inl e))))) = not_recording e
 unbegun names s k path not_key not_played not_recording (inr (inr (inr (inr (inr none))))) = none
 
--- what holds of each peer's run, done in part or whole
+-- properties of every peer's run, done in part or in whole
 
 abbrev pub PeerPartKept : Type 0
 PeerPartKept =
@@ -60,14 +60,14 @@ module _ (names : PeerNames) (s : SessionData) (k : Secrets) (given : List Arriv
   abbrev head : List ℕ
   head = head_bytes s.shape.id k.party
 
-  -- the outside at the binding
+  -- the outside when the link was bound
   abbrev bound : Outside
   bound = outside-at (before_binding names s k) (place_of names.begin_ms s k) old new
 
-  -- ---- stopped behind the binding
+  -- ---- stopped after the binding
 
   module _ {done : List Action} (ran : Ran done old new) (received : received_in done ≡ given) (b : IsPeerBehind names s k given done) where
-    -- a front of the summary is printed, where the run is at its end
+    -- a prefix of the summary is printed, if the run is at its end
     printed-front : IsFrontPrinted (peer_summary r (taken_of r given)) old new
     printed-front = front-at_end peer_summary r given old new (front-behind (peer-kinds names s k given) ran b)
 
@@ -101,7 +101,7 @@ module _ (names : PeerNames) (s : SessionData) (k : Secrets) (given : List Arriv
           recorded_is = λ own. p.recorded_is own.apart head (recorded-at names own s k old.files.content);
         }
 
-  -- ---- done
+  -- ---- completed
 
   module _ (sends : RulesSend) (plays : RulesPlay) (keeps : WholePeerKept) (all_sent : WholeSent) (finds : Finds) (few : r.peers < 2 ^ 64)
       (ran : Ran (peer_actions names s k given) old new) (ended : IsTrue (is_ended r given)) where
@@ -146,7 +146,7 @@ module _ (held : AreHeld) (few : IsFew) (names : PeerNames) (given : List Arriva
     few = few (rules_by s k).last (inputs_of given);
   }
 
-  -- whatever the status
+  -- at every status
   pub peer-stands : PeerPartKept → (status : ℕ) → Outcome names given old new status → PeerStands names old new
   peer-stands keeps status (inl stayed) = inl (as-untouched status old new stayed.0)
   peer-stands keeps status (inr b) =
@@ -172,7 +172,7 @@ module _ (held : AreHeld) (few : IsFew) (names : PeerNames) (given : List Arriva
             }))
       ]
 
-  -- at 0 all was done
+  -- at 0 everything was done
   pub peer-done : AreInRange → RulesSend → RulesPlay → WholePeerKept → WholeSent → Finds → Outcome names given old new 0 →
       PeerDone names old new
   peer-done ranged sends plays keeps all_sent finds o =

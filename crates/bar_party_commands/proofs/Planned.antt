@@ -1,4 +1,4 @@
--- Runs as they are planned, by what the code computes.
+-- Planned runs, in terms of what the code computes.
 use Rattle.std.proofs.Common.{◌≡◌, ℕ, List, [], ◌∷◌, ◌++◌, None, Some, Result, Ok, Err, ap, ◌∙◌, subst}
 use Rattle.bar_outside.specs.Disk.{Disk}
 use Rattle.bar_outside.specs.Stream.{Stream}
@@ -15,7 +15,7 @@ use Rattle.bar_rules.specs.Member.{Member}
 use Rattle.bar_rules.specs.Members.{member_by}
 use Rattle.bar_wire.specs.Inputs.{Input}
 use Rattle.bar_core.specs.Rules.{Rules}
-use Rattle.bar_caster.specs.Core.{caster_rules}
+use Rattle.bar_caster.specs.Code.Core.{caster_rules}
 use Rattle.bar_node.specs.Runs.{RanNode, taken_of}
 use Rattle.bar_node.specs.declared.summary.Summary.{Summary}
 use Rattle.bar_peer.specs.Core.{peer_rules}
@@ -28,17 +28,17 @@ use Rattle.bar_party_commands.proofs.Printed.{caster-prints, peer-prints}
 use Rattle.bar_party_commands.proofs.Reaching.{AnyName}
 use Rattle.bar_party_commands.proofs.RunFollowing.{AtFiles, AtLink, AtOutput, at-binding, before-binding, behind-run, in-run, run_actions}
 
--- the place that a link is bound to
+-- the place to which a link is bound
 pub placed : (s : SessionData) (k : Secrets) (begin_ms port tick_ms : ℕ) → port ≡ s.port → tick_ms ≡ s.tick_ms →
     bound_by k.party port begin_ms tick_ms ≡ place_of begin_ms s k
 placed s k begin_ms port tick_ms e f =
     ap (λ x. bound_by k.party x begin_ms tick_ms) e ∙ ap (λ x. bound_by k.party s.port begin_ms x) f
 
--- a key file is written anew
+-- the content of a key file is replaced
 abbrev written : List ℕ → List ℕ → List Action
 written key text = create key ∷ append key text ∷ []
 
--- ---- a peer's run, by the text of its spent key, the head of its recording, and the place that its link is bound to
+-- ---- a peer's run, by the text of its spent key, the head of its recording, and the place to which its link is bound
 
 module _ (names : peer.PeerNames) (s : SessionData) (k : Secrets) (text head : List ℕ) (to : Bound) (me : Member)
     (spent : text ≡ spent_text s k) (starts : head ≡ head_bytes s.shape.id k.party) (place : to ≡ place_of names.begin_ms s k)
@@ -49,11 +49,11 @@ module _ (names : peer.PeerNames) (s : SessionData) (k : Secrets) (text head : L
   abbrev PeerFollows : {T : Type 0} → Outside → Outside → Result T Fault → Type 0
   PeerFollows old new result = RunFollows (peer.peer_actions names s k) (peer.rules_by s k) old new result
 
-  -- before its link is bound a peer calls nothing of it
+  -- a peer doesn't call its link before binding it
   peer-firsts : AreAmong AnyName NoCall ⊥ (written names.key text ++ begun)
   peer-firsts = (tt, (tt, (tt, (tt, (tt, tt)))))
 
-  -- the run with these in their places
+  -- the run with these values
   as-peer : {T : Type 0} (old new : Outside) (result : Result T Fault) →
       RunFollows (run_actions (written names.key text ++ begun) to (Some names.recording) (Some names.played) names.found peer_summary
       (peer_rules me)) (peer_rules me) old new result →
@@ -81,7 +81,7 @@ module _ (names : peer.PeerNames) (s : SessionData) (k : Secrets) (text head : L
           AtFiles (written names.key text ++ begun) files mid result
       front mid result second = λ w. followed (written names.key text) begun _ _ _ z (first w) result (second w)
 
-      -- its files weren't begun
+      -- its files weren't created
       pub peer-unbegun : {S T : Type 0} (mid : Disk) (fault : Fault) → AtFiles {T = S} begun spent_files mid (Err fault) →
           PeerFollows {T = T} (outside files out wire) (outside mid out wire) (Err fault)
       peer-unbegun mid fault second =
@@ -128,7 +128,7 @@ module _ (names : caster.CasterNames) (s : SessionData) (k : Secrets) (stream te
   abbrev CasterFollows : {T : Type 0} → Outside → Outside → Result T Fault → Type 0
   CasterFollows old new result = RunFollows (caster.caster_actions names s k stream) (caster.rules_by s k stream) old new result
 
-  -- before its link is bound a broadcaster calls nothing of it
+  -- a broadcaster doesn't call its link before binding it
   caster-firsts : AreAmong AnyName NoCall ⊥ (written names.key text)
   caster-firsts = (tt, (tt, tt))
 

@@ -41,7 +41,7 @@ take-none : (k : ℕ) → ◌≡◌ {A = List ℕ} (take k []) []
 take-none zero = refl
 take-none (suc k) = refl
 
--- a front of what is printed at its end is a front of the summary
+-- a prefix of what is printed at the end is a prefix of the summary
 pub front-at_end : (summary : Rules → List Input → List Action) (r : Rules) (given : List Arrival) (old new : Outside) →
     IsFrontPrinted (at_end summary r given) old new → IsFrontPrinted (summary r (taken_of r given)) old new
 front-at_end summary r given old new front = by_test (is_ended r given) front

@@ -1,17 +1,17 @@
--- How much was done of some actions, and what was received by it.
+-- How much of some actions was done, and what was received.
 use Rattle.std.proofs.Common.{◌≡◌, ℕ, List, [], ◌∷◌, ◌++◌, Result, Ok, Err, refl, sym, ap, ◌∙◌, subst, inl, inr}
 use Rattle.std.proofs.lemmas.Grind.{flat_map-append}
 use Rattle.bar_outside.specs.Wire.{Arrival}
 use Rattle.bar_outside.specs.Disk.{Content}
 use Rattle.bar_outside.specs.Plan.{Action, Begun, Outside, Plan, Ran, Reached, read_then}
 use Rattle.bar_outside.specs.Plan.Action.{append, create, link, read, show}
-use Rattle.bar_outside.specs.Follows.{Follows, IsLater}
+use Rattle.bar_outside.specs.Code.Follows.{Follows, IsLater}
 use Rattle.bar_outside.specs.Stages.{Stages, ComesTo, plan_by}
 use Rattle.bar_outside.specs.Stages.Stages.{does, reads}
 use Rattle.bar_outside.specs.declared.fault.Fault.{Fault}
 use Rattle.bar_outside.proofs.ActionLists.{Begun-behind, Begun-first, Begun-longer, Begun-nothing, Begun-whole, Ran-append, no-part-read}
 use Rattle.bar_outside.proofs.Unlinked.{IsUnlinked}
-use Rattle.bar_node.specs.Effects.{received_by, received_in}
+use Rattle.bar_node.specs.Code.Effects.{received_by, received_in}
 use Rattle.bar_node.proofs.ActionKinds.{AreAmong, NoCall, among-begun, among-unreceived}
 use Rattle.bar_party_commands.specs.Running.{HasReached}
 
@@ -29,7 +29,7 @@ so-far plan old new (Err fault) f = (f.part.done, f.part.begun, f.part.ran)
 pub nothing-reached : (plan : List Action) (old new : Outside) → Ran [] old new → HasReached plan [] old new
 nothing-reached plan old new ran = record { done = []; begun = Begun-nothing plan; received = refl; ran = ran }
 
--- no call of the link was, so nothing was received
+-- no action calls the link, so nothing was received
 pub reached-uncalled : {T : Type 0} (P : List ℕ → Type 0) (S : Type 0) (plan : List Action) (old new : Outside) (result : Result T Fault) →
     AreAmong P NoCall S plan → Follows plan old new result → HasReached plan [] old new
 reached-uncalled P S plan old new result kinds f =
@@ -41,7 +41,7 @@ reached-uncalled P S plan old new result kinds f =
       ran = d.2;
     }
 
--- actions without a call of the link write files and print
+-- actions without a call of the link only read or write files, or print
 kinds-unlinked : (acts : List Action) → IsUnlinked acts → AreAmong AnyName NoCall (Unit {0}) acts
 kinds-unlinked [] h = tt
 kinds-unlinked (read path ∷ others) h = (tt, kinds-unlinked others h)
@@ -107,7 +107,7 @@ behind-read path actions given old new r =
       ]
     ]
 
--- so much was done of the end to which the stages come
+-- the end to which the stages lead was done just as far
 pub reached-end : (stages : Stages) (content : Content) (end : Plan) (given : List Arrival) (old new : Outside) →
     ComesTo stages content end → HasReached (plan_by stages content).actions given old new → HasReached end.actions given old new
 reached-end (does last) content end given old new c r = subst (λ (p : Plan). HasReached p.actions given old new) c r

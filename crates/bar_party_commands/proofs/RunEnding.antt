@@ -9,8 +9,8 @@ use Rattle.bar_outside.specs.declared.files.FileFault.TheVariants as file
 use Rattle.bar_outside.specs.declared.fault.Fault.{Fault}
 use Rattle.bar_outside.specs.declared.fault.Fault.TheVariants.{File, Link, NoMemory, Output}
 use Rattle.bar_outside.specs.Ends.{EndsWith}
-use Rattle.bar_outside.specs.Follows.{IsReliable}
-use Rattle.bar_outside.specs.Faults.{code_after, code_of_fault, fault_of_file, line_after, line_of_fault}
+use Rattle.bar_outside.specs.Code.Follows.{IsReliable}
+use Rattle.bar_outside.specs.Code.Faults.{code_after, code_of_fault, fault_of_file, line_after, line_of_fault}
 use Rattle.bar_outside.specs.Plan.{Action, CanRun, Outside, Plan, Ran, before, doing, is_stop, line_at, no_memory, outside, read_then}
 use Rattle.bar_outside.specs.Plan.Action.{read}
 use Rattle.bar_outside.specs.Stages.{Stages, accepts, plan_by, refuses, stage}
@@ -24,7 +24,7 @@ use Rattle.bar_party_commands.specs.Running.{HasReached, RunEndsWith, RunFollows
 use Rattle.bar_party_commands.proofs.Reaching.{nothing-reached, reached-behind}
 use Rattle.bar_party_commands.proofs.RunFollowing.{heard-nothing}
 
--- a fault that isn't want of memory
+-- a fault other than running out of memory
 pub other-fault : {E : Type 0} (fault memory : E) (P : Type 0) → (fault ≡ memory) ⊎ P → (fault ≡ memory → ⊥) → P
 other-fault fault memory P (inl e) other = absurd (other e)
 other-fault fault memory P (inr p) other = p
@@ -44,12 +44,12 @@ unbegun plan old mid out wire status line same other h = record {
   answers = λ reliable. other;
 }
 
--- a read that isn't answered is no fault of the link
+-- a failed read isn't a fault of the link
 no-link-read : (cause : FileFault) → code_of_fault (fault_of_file cause) ≡ 6 → ⊥
 no-link-read file.Failed e = absurd (omega arith)
 no-link-read file.NoMemory e = absurd (omega arith)
 
--- the files are as reliable behind a read
+-- a read doesn't change whether the files are reliable
 still-reliable : (path : List ℕ) (old mid : Disk) (out : Stream) (wire : Wire) (result : Result (Vec ℕ Global) FileFault) →
     Reads path old mid result → IsReliable (outside old out wire) → IsReliable (outside mid out wire)
 still-reliable path old mid out wire result reads r = record {
@@ -58,7 +58,7 @@ still-reliable path old mid out wire result reads r = record {
   wire = r.wire;
 }
 
--- ---- a file that is read, and the rest goes by what it stands for
+-- ---- a file that is read, and a rest that depends on its meaning
 
 module _ {A E : Type 0} (path : List ℕ) (meaning : List ℕ → Result A E) (status : ℕ) (line : E → List ℕ)
     (others : List Arrival → A → Stages) (old mid : Disk) (out : Stream) (wire : Wire) where
@@ -74,7 +74,7 @@ module _ {A E : Type 0} (path : List ℕ) (meaning : List ℕ → Result A E) (s
   abbrev was : Outside
   was = outside mid out wire
 
-  -- it wasn't read
+  -- the read failed
   pub unread : (cause : FileFault) → Reads path old mid (Err cause) →
       EndsSo was (code_of_fault (fault_of_file cause)) (line_of_fault (fault_of_file cause))
   unread cause reads =
@@ -82,19 +82,19 @@ module _ {A E : Type 0} (path : List ℕ) (meaning : List ℕ → Result A E) (s
       (EndsWith-unread path (λ bytes. by-meaning [] (meaning bytes)) old mid was cause reads)
 
   module _ (bytes : Vec ℕ Global) (reads : Reads path old mid (Ok bytes)) where
-    -- memory was wanting
+    -- memory ran out
     pub unmeant : EndsSo was 70 no_memory
     unmeant =
         unbegun plan old mid out wire 70 no_memory reads.same (λ e. absurd (omega arith))
         (EndsWith-stage_memory path meaning status line (others []) old mid was bytes reads)
 
-    -- it is refused
+    -- what was read is refused
     pub refused-so : (fault : E) → meaning bytes.items ≡ Err fault → is_stop status ≡ false → EndsSo was status (line fault)
     refused-so fault e go =
         unbegun plan old mid out wire status (line fault) reads.same (no_stop 6 refl status go)
         (EndsWith-stage_refused path meaning status line (others []) old mid was bytes reads fault go e)
 
-    -- what comes behind it where it is accepted
+    -- the rest of the plan if it is accepted
     plan-is : (meant : A) → meaning bytes.items ≡ Ok meant → IsTrue mid.told → (given : List Arrival) →
         plan given old.content ≡ before (read path) (plan_by (others given meant) mid.content)
     plan-is meant e told given =
@@ -105,7 +105,7 @@ module _ {A E : Type 0} (path : List ℕ) (meaning : List ℕ → Result A E) (s
     read-first : Ran (read path ∷ []) (outside old out wire) was
     read-first = record { files = reads.same; out = sym (append-nil out.bytes); wire = refl }
 
-    -- it is accepted
+    -- what was read is accepted
     pub accepted-so : (meant : A) (new : Outside) (code : ℕ) (said : List ℕ) → meaning bytes.items ≡ Ok meant →
         RunEndsWith (λ given. plan_by (others given meant)) was new code said → EndsSo new code said
     accepted-so meant new code said e h = record {
@@ -123,9 +123,9 @@ module _ {A E : Type 0} (path : List ℕ) (meaning : List ℕ → Result A E) (s
       answers = λ reliable. h.answers (still-reliable path old mid out wire (Ok bytes) reads reliable);
     }
 
--- ---- actions that go by what the link gave
+-- ---- actions that depend on what the link gave
 
--- a fault ends a plan of these actions at any status
+-- a fault ends a plan with these actions, whatever its own status
 at-fault : (actions : List Action) (first final : ℕ) (line : List ℕ) (old new : Outside) (fault : Fault) →
     (code_of_fault fault ≡ first → ⊥) → EndsWith (doing actions first line) old new (code_of_fault fault) (line_of_fault fault) →
     EndsWith (doing actions final line) old new (code_of_fault fault) (line_of_fault fault)
@@ -170,7 +170,7 @@ no-link-fault Link e six = cc
 no-link-fault Output e six = absurd (omega arith)
 no-link-fault NoMemory e six = absurd (omega arith)
 
--- so a command ends that follows them
+-- a command that follows them ends like this
 pub following : {T : Type 0} (actions : List Arrival → List Action) (r : Rules) (old new : Outside) (result : Result T Fault) →
     ((given : List Arrival) (here : CreatedFiles) → CanRun (actions given) here) → RunFollows actions r old new result →
     RunEndsWith (λ given. doing (actions given) (status_of r given) []) old new (code_after 0 result) (line_after [] result)

@@ -1,4 +1,4 @@
--- Runs over a link that are followed, with what comes before and behind them.
+-- Runs over a link that are followed, with what precedes and follows them.
 use Rattle.std.proofs.Common.{◌≡◌, ℕ, List, [], ◌∷◌, ◌++◌, append-nil, ◌||◌, if◌then◌else◌, Bool, true, false, Option, Result, Ok, Err, OnOk, IsTrue, refl}
 use Rattle.std.proofs.Common.{sym, ap, ◌∙◌}
 use Rattle.std.proofs.Common.{subst, inl, inr}
@@ -10,7 +10,7 @@ use Rattle.bar_outside.specs.Wire.{Arrival, Bound, Traffic, Wire}
 use Rattle.bar_outside.specs.Plan.{Action, Begun, IsPartOf, Outside, outside, traffic_after, with_files, with_out, with_wire}
 use Rattle.bar_outside.specs.Plan.Action.{append, create, link, read, show}
 use Rattle.bar_outside.specs.Plan.LinkCall.{bind}
-use Rattle.bar_outside.specs.Follows.{Follows}
+use Rattle.bar_outside.specs.Code.Follows.{Follows}
 use Rattle.bar_outside.specs.declared.fault.Fault.{Fault}
 use Rattle.bar_outside.specs.declared.fault.Fault.TheVariants.{NoMemory}
 use Rattle.bar_outside.proofs.ActionLists.{Begun-first, Begun-none}
@@ -18,7 +18,7 @@ use Rattle.bar_outside.proofs.Following.{Ran-nothing, followed, handed, no_memor
 use Rattle.bar_wire.specs.Inputs.{Input}
 use Rattle.bar_core.specs.Rules.{Rules}
 use Rattle.bar_record.specs.Recording.{IsInRange}
-use Rattle.bar_node.specs.Effects.{received_in}
+use Rattle.bar_node.specs.Code.Effects.{received_in}
 use Rattle.bar_node.specs.Runs.{RanNode, has_end, heard, inputs_of, is_ended, node_plan, taken_of}
 use Rattle.bar_node.specs.declared.summary.Summary.{Summary}
 use Rattle.bar_node.proofs.ActionKinds.{AreAmong, NoCall, NoName, among-unreceived}
@@ -35,7 +35,7 @@ heard-nothing old new same = record {
   within = tt;
 }
 
--- memory was wanting before anything was done
+-- memory ran out before anything was done
 pub run-memory : {T : Type 0} (actions : List Arrival → List Action) (r : Rules) (old : Outside) →
     RunFollows {T = T} actions r old old (Err NoMemory)
 run-memory actions r old = record {
@@ -47,7 +47,7 @@ run-memory actions r old = record {
   ended = tt;
 }
 
--- ---- what is done at a part alone, over any outside
+-- ---- what is done to one part only, over any outside
 
 abbrev pub AtFiles : {T : Type 0} → List Action → Disk → Disk → Result T Fault → Type 0
 AtFiles plan old new result = (w : Outside) → Follows plan (with_files w old) (with_files w new) result
@@ -80,7 +80,7 @@ begun-binding bound done traffic b =
       ]
     ]
 
--- nor is anything received by it
+-- a binding receives nothing
 binding-received : (bound : Bound) (done : List Action) → Begun (link (bind bound) ∷ []) done → received_in done ≡ []
 binding-received bound done b =
     elim (Begun-first (link (bind bound)) [] done b) [
@@ -100,7 +100,7 @@ bound-taken : {T : Type 0} (bound : Bound) (old new : Outside) (x : T) → Follo
     new.wire.traffic.taken ≡ old.wire.traffic.taken
 bound-taken bound old new x f = ap (λ (t : Traffic). t.taken) f.done.wire
 
--- ---- some actions at the files, the binding, the run and its summary
+-- ---- some actions on the files, the binding, the run and its summary
 
 abbrev pub run_actions : List Action → Bound → Option (List ℕ) → Option (List ℕ) → List ℕ → (Rules → List Input → List Action) → Rules →
     List Arrival → List Action
@@ -129,7 +129,7 @@ module _ (front : List Action) (bound : Bound) (recording played : Option (List 
   abbrev behind : List Arrival → List Action
   behind given = run given ++ at_end summary r given
 
-  -- what is printed at the end calls nothing
+  -- what is printed at the end writes no file and makes no call of the link
   end-kinds : (given : List Arrival) → AreAmong NoName NoCall (Unit {0}) (at_end summary r given)
   end-kinds given = by_test (is_ended r given)
     where
@@ -138,7 +138,7 @@ module _ (front : List Action) (bound : Bound) (recording played : Option (List 
       by_test false = tt
 
   module _ (files : Disk) (out : Stream) (wire : Wire) where
-    -- it was stopped before the binding
+    -- the command was stopped before the binding
     pub before-binding : {S T : Type 0} (mid : Disk) (fault : Fault) → AtFiles {T = S} front files mid (Err fault) →
         RunFollows {T = T} acts r (outside files out wire) (outside mid out wire) (Err fault)
     before-binding mid fault first = record {
@@ -156,14 +156,14 @@ module _ (front : List Action) (bound : Bound) (recording played : Option (List 
       abbrev at_first : Follows front (outside files out wire) (outside mid out wire) (Ok x)
       at_first = first (outside files out wire)
 
-      -- what was reached behind the files
+      -- what was reached after the actions on the files
       reached-first : (given : List Arrival) (new : Outside) → HasReached (link (bind bound) ∷ behind given) given (outside mid out wire) new →
           HasReached (acts given) given (outside files out wire) new
       reached-first given new rest =
           reached-behind front (link (bind bound) ∷ behind given) [] given _ _ _ at_first.later at_first.done
           (among-unreceived AnyName ⊥ front firsts) rest
 
-      -- at the binding
+      -- the command was stopped at the binding
       pub at-binding : {U T : Type 0} (wire_new : Wire) (fault : Fault) →
           AtLink {T = U} (link (bind bound) ∷ []) wire wire_new (Err fault) →
           RunFollows {T = T} acts r (outside files out wire) (outside mid out wire_new) (Err fault)
@@ -195,7 +195,7 @@ module _ (front : List Action) (bound : Bound) (recording played : Option (List 
         abbrev at_second : Follows (link (bind bound) ∷ []) (outside mid out wire) (outside mid out late) (Ok y)
         at_second = second (outside mid out wire)
 
-        -- what was reached behind the binding
+        -- what was reached after the binding
         reached-second : (given : List Arrival) (new : Outside) → HasReached (behind given) given (outside mid out late) new →
             HasReached (acts given) given (outside files out wire) new
         reached-second given new rest =
@@ -215,7 +215,7 @@ module _ (front : List Action) (bound : Bound) (recording played : Option (List 
           within = within;
         }
 
-        -- in the midst of the run
+        -- the command was stopped during the run
         pub in-run : {T : Type 0} (fault : Fault) → RanNode recording played found r now mid files_new late wire_new (Err fault) →
             RunFollows {T = T} acts r (outside files out wire) (outside files_new out wire_new) (Err fault)
         in-run fault ran = record {
@@ -234,7 +234,7 @@ module _ (front : List Action) (bound : Bound) (recording played : Option (List 
           ended = tt;
         }
 
-        -- behind the run, by rules that are the same
+        -- after the run, by equal rules
         pub behind-run : {T : Type 0} (s : Summary) (ran : RanNode recording played found r now mid files_new late wire_new (Ok s))
             (out_new : Stream) (result : Result T Fault) (same : Rules) → same ≡ r →
             AtOutput (summary same (taken_of r ran.given)) out out_new result →

@@ -1,4 +1,4 @@
--- Commands that bind a link, run over it and print: what was done of their actions.
+-- Commands that bind a link, run over it and print: which part of their actions was done.
 use Rattle.std.proofs.Common.{◌≡◌, ◌⊎◌, ℕ, List, [], ◌∷◌, ◌++◌, Some, refl, sym, ap, ◌∙◌, subst, inl, inr, append-nil, IsTrue, true≢false}
 use Rattle.std.proofs.lemmas.Grind.{flat_map-append}
 use Rattle.bar_outside.specs.Disk.{Content}
@@ -8,17 +8,17 @@ use Rattle.bar_outside.specs.Plan.Action.{link}
 use Rattle.bar_outside.specs.Plan.LinkCall.{bind}
 use Rattle.bar_outside.proofs.ActionLists.{Begun-both, Begun-first, Begun-nothing, Begun-whole, content_after-append, shown-append, traffic_after-append}
 use Rattle.bar_outside.proofs.Untouched.{Touches-split, content-untouched}
-use Rattle.bar_node.specs.Effects.{received_by, received_in}
+use Rattle.bar_node.specs.Code.Effects.{received_by, received_in}
 use Rattle.bar_node.specs.Runs.{has_end}
 use Rattle.bar_party_commands.specs.Stands.{IsBegun, IsFrontPrinted}
 use Rattle.bar_node.proofs.ActionKinds.{AreAmong, IsUnbinding, NoCall, NoName, among-begun, among-bound, among-ended, among-silent, among-touches, among-unlinked, among-unreceived, among-unwritten, shown-front}
 use Rattle.bar_node.proofs.Cutting.{no-part-link}
 
--- some actions before the link is bound, the binding, a run over the link, and what is printed at its end
+-- some actions before the link is bound, the binding, a run over the link, and what is printed at the end
 abbrev pub binding_plan : List Action → Bound → List Action → List Action → List Action
 binding_plan first to run last = first ++ (link (bind to) ∷ (run ++ last))
 
--- The link was bound, and of what comes behind it so much was done.
+-- The link was bound, and the following actions were done in part.
 pub record IsBehind (first : List Action) (to : Bound) (run last done : List Action) : Type 0 where
   pub more : List Action
   pub prints : List Action
@@ -26,10 +26,10 @@ pub record IsBehind (first : List Action) (to : Bound) (run last done : List Act
   pub run_begun : Begun run more
   pub last_begun : Begun last prints
 
--- ---- what was done of them
+-- ---- which part of them was done
 
 module _ (first : List Action) (to : Bound) (run last : List Action) where
-  -- all
+  -- everything
   abbrev pub all-behind : IsBehind first to run last (binding_plan first to run last)
   all-behind = record { more = run; prints = last; is = refl; run_begun = Begun-whole run; last_begun = Begun-whole last }
 
@@ -55,7 +55,7 @@ module _ (first : List Action) (to : Bound) (run last : List Action) where
             }
       ]
 
-  -- some of those before the binding, or some of those behind it
+  -- a part of the actions before the binding, or a part of those after it
   pub split-binding : (done : List Action) → Begun (binding_plan first to run last) done →
       Begun first done ⊎ IsBehind first to run last done
   split-binding done b =
@@ -70,15 +70,15 @@ module _ (first : List Action) (to : Bound) (run last : List Action) where
         ]
       ]
 
--- ---- what stands then
+-- ---- what then holds
 
--- The first write files of such names, the run writes files of such names and binds no link, and the last print.
+-- The first actions write files with names in P, the run writes files with names in Q and binds no link, and the last actions print.
 pub record AreOfKinds (P Q : List ℕ → Type 0) (first run last : List Action) : Type 0 where
   pub firsts : AreAmong P NoCall ⊥ first
   pub runs : AreAmong Q IsUnbinding ⊥ run
   pub lasts : AreAmong NoName NoCall (Unit {0}) last
 
--- the outside when the link was bound, with the output that it has at the end
+-- the outside when the link was bound, with the final output
 abbrev pub outside-at : List Action → Bound → Outside → Outside → Outside
 outside-at first to old new =
     outside
@@ -98,7 +98,7 @@ outside-at first to old new =
     })
 
 module _ {P Q : List ℕ → Type 0} {first run last : List Action} (kinds : AreOfKinds P Q first run last) where
-  -- which files they touch
+  -- the files that they touch
   pub touched-binding : (to : Bound) (path : List ℕ) → Touches (binding_plan first to run last) path → P path ⊎ Q path
   touched-binding to path t =
       elim (Touches-split first (link (bind to) ∷ (run ++ last)) path t) [
@@ -123,7 +123,7 @@ module _ {P Q : List ℕ → Type 0} {first run last : List Action} (kinds : Are
           wire = ran.wire ∙ among-unlinked P ⊥ done old.wire.traffic of_kinds;
         }
 
-    -- behind it
+    -- after it
     module _ {to : Bound} (b : IsBehind first to run last done) where
       more-kinds : AreAmong Q IsUnbinding ⊥ b.more
       more-kinds = among-begun Q IsUnbinding ⊥ run b.more b.run_begun kinds.runs
@@ -131,11 +131,11 @@ module _ {P Q : List ℕ → Type 0} {first run last : List Action} (kinds : Are
       print-kinds : AreAmong NoName NoCall (Unit {0}) b.prints
       print-kinds = among-begun NoName NoCall (Unit {0}) last b.prints b.last_begun kinds.lasts
 
-      -- the binding, and what was done behind it
+      -- the binding, and what was done after it
       abbrev rest : List Action
       rest = link (bind to) ∷ (b.more ++ b.prints)
 
-      -- the run was done so far, from what the files held at the binding, and from a link that was bound
+      -- the run was done up to this point, starting from the files when the link was bound, and from a bound link
 
       content-behind : new.files.content ≡ content_after b.more (content_after first old.files.content)
       content-behind =
@@ -167,7 +167,7 @@ module _ {P Q : List ℕ → Type 0} {first run last : List Action} (kinds : Are
       bound-behind =
           ap (λ (t : Traffic). t.bound) traffic-behind ∙ among-bound Q ⊥ b.more (bound_to to old.wire.traffic) more-kinds
 
-      -- what was received was received by the run, and the link gave its end exactly where it came
+      -- what was received was received by the run, and the link reports its end if and only if it was received
 
       pub received-behind : received_in b.more ≡ received_in done
       received-behind =
@@ -182,7 +182,7 @@ module _ {P Q : List ℕ → Type 0} {first run last : List Action} (kinds : Are
       ended-behind =
           ap (λ (t : Traffic). t.ended) traffic-behind ∙ among-ended Q ⊥ b.more (bound_to to old.wire.traffic) more-kinds
 
-      -- a file that the run doesn't write is as it was at the binding
+      -- a file that the run doesn't write is the same as when the link was bound
       pub kept-behind : (path : List ℕ) → (Q path → ⊥) →
           new.files.content path ≡ content_after first old.files.content path
       kept-behind path none =
@@ -190,7 +190,7 @@ module _ {P Q : List ℕ → Type 0} {first run last : List Action} (kinds : Are
           ∙ content-untouched b.more (content_after first old.files.content) path
           (λ t. none (among-touches Q IsUnbinding ⊥ b.more path more-kinds t))
 
-      -- nothing but what comes last is printed
+      -- only the last actions print
       pub printed-behind : new.out.bytes ≡ old.out.bytes ++ shown b.prints
       printed-behind =
           ran.out

@@ -2,7 +2,7 @@
 use Rattle.std.proofs.Common.{◌≡◌, ◌≤◌, ℕ, List, [], ◌∷◌, ◌++◌, Option, Some, Result, Ok, Err, refl, sym, ap, arith}
 use Rattle.bar_outside.specs.Plan.{Action, Outside}
 use Rattle.bar_outside.specs.Plan.Action.{show}
-use Rattle.bar_outside.specs.Follows.{Follows}
+use Rattle.bar_outside.specs.Code.Follows.{Follows}
 use Rattle.bar_outside.specs.declared.fault.Fault.{Fault}
 use Rattle.bar_outside.proofs.Following.{followed, handed, stopped}
 use Rattle.bar_findings.proofs.SameFindings.{range-same}
@@ -14,13 +14,13 @@ pub party-shown : (word : List ℕ) (party : ℕ) (kept : Option (List ℕ)) (ev
     Follows (shown_if word party kept) old new result
 party-shown word party kept evidence line old new result is e shown = rw (is, sym e) shown
 
--- the actions of a list of actions are these
+-- the identity maps concatenation to concatenation
 pub same-join : (xs ys : List Action) → (λ (zs : List Action). zs) (xs ++ ys) ≡ xs ++ ys
 same-join xs ys = refl
 
--- ---- a line, and then one for each party with evidence against it
+-- ---- a line, and then one for each party against which evidence is kept
 
--- the parties that count have the same evidence
+-- the same evidence for the parties in range gives the same actions
 parties-same : (word : List ℕ) (f g : ℕ → Option (List ℕ)) (peers : ℕ) → ((party : ℕ) → 1 ≤ party → party ≤ peers → f party ≡ g party) →
     shown_parties word f peers ≡ shown_parties word g peers
 parties-same word f g peers same =

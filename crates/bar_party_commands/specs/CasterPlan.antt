@@ -1,4 +1,4 @@
--- What `broadcaster` does.
+-- The plan of the command `broadcaster`.
 use Rattle.std.specs.Prelude.{◌≡◌, ℕ, List, [], ◌∷◌, ◌++◌, None, Some, Ok, true}
 use Rattle.bar_outside.specs.Disk.{Content, readable}
 use Rattle.bar_outside.specs.Plan.{Action, Plan}
@@ -9,7 +9,7 @@ use Rattle.bar_seeds.specs.declared.secrets.Secrets.{Secrets}
 use Rattle.bar_session.specs.SessionData.{SessionData}
 use Rattle.bar_core.specs.Rules.{Rules}
 use Rattle.bar_rules.specs.Members.{member_by}
-use Rattle.bar_caster.specs.Core.{caster_rules}
+use Rattle.bar_caster.specs.Code.Core.{caster_rules}
 use Rattle.bar_node.specs.Runs.{node_plan}
 use Rattle.bar_session_files.specs.Accepting.{HasSession, fresh_key_of, fresh_key_stage, session_stage}
 use Rattle.bar_party_commands.specs.Streams.{no_room, stream_in}
@@ -24,7 +24,7 @@ pub record CasterNames : Type 0 where
   pub stream : List ℕ
   pub found : List ℕ
 
--- the rules of the broadcaster whose key it is, with its stream
+-- the rules of the broadcaster with this key, for its stream
 abbrev pub rules_by : SessionData → Secrets → List ℕ → Rules
 rules_by s k stream = caster_rules (member_by s k) stream
 
@@ -47,23 +47,24 @@ caster_end names given s k stream = record {
   line = [];
 }
 
--- the stream is read, and accepted, if it fits, or refused
+-- the stream is read, and accepted if it fits; otherwise it is refused
 abbrev pub caster_stream_stages : CasterNames → List Arrival → SessionData → Secrets → Stages
 caster_stream_stages names given s k =
     stage names.stream (stream_in s) 8 (no_room s) (λ stream. does (caster_end names given s k stream))
 
--- the key file before it, which is accepted, if it is the broadcaster's and fresh, or refused
+-- before that the key file is read, and accepted if it is the broadcaster's and fresh; otherwise it is refused
 abbrev pub caster_key_stages : CasterNames → List Arrival → SessionData → Stages
 caster_key_stages names given s = fresh_key_stage true names.key s (caster_stream_stages names given s)
 
--- and the session before both
+-- before both the session is read
 abbrev pub caster_stages : CasterNames → List Arrival → Stages
 caster_stages names given = session_stage names.session (caster_key_stages names given)
 
 abbrev pub caster_plan : CasterNames → List Arrival → Content → Plan
 caster_plan names given = plan_by (caster_stages names given)
 
--- The session and the key file, which is the broadcaster's and fresh, are there and accepted, and the stream is there and fits.
+-- The session, the key file and the stream exist. The session is accepted, the key file is the broadcaster's and fresh, and the stream
+-- fits.
 pub record CasterAccepted (names : CasterNames) (content : Content) (s : SessionData) (k : Secrets) (stream : List ℕ) : Type 0 where
   pub in_session : HasSession names.session content s
   pub bytes : List ℕ

@@ -1,4 +1,4 @@
--- What stands after `broadcaster`.
+-- What holds after the command `broadcaster`.
 use Rattle.std.specs.Prelude.{◌≡◌, ◌≢◌, ◌⊎◌, ◌<◌, ℕ, List, [], ◌++◌, Some, IsTrue, length, true}
 use Rattle.std.specs.List.{AllByRecursion}
 use Rattle.bar_outside.specs.Disk.{Content, readable}
@@ -23,7 +23,7 @@ use Rattle.bar_party_commands.specs.Running.{place_of, spending, spent_text}
 use Rattle.bar_party_commands.specs.Stands.{AreFound, IsBegun, IsFrontPrinted, IsUntouched, packets}
 use Rattle.bar_party_commands.specs.Summaries.{caster_summary}
 
--- The files were accepted, and the session holds the public key that comes from the key file's secret.
+-- The files were accepted, and the session contains the public key derived from the key file's secret.
 pub record IsCasterOf (names : CasterNames) (content : Content) (s : SessionData) (k : Secrets) (stream : List ℕ) : Type 0 where
   pub accepted : CasterAccepted names content s k stream
   pub fits : Fits s k.party k.secret
@@ -33,8 +33,8 @@ pub record IsBound (names : CasterNames) (s : SessionData) (k : Secrets) (old ne
   pub bound : new.wire.traffic.bound ≡ Some (place_of names.begin_ms s k)
   pub spent : IsApart names.key names.found → new.files.content names.key ≡ Some (spent_text s k)
 
--- A broadcaster that ended with 0: what the link gave was taken, and over these inputs, paced, all that its rules send was sent. The run was
--- at its end. What was found is written, and the summary printed.
+-- A broadcaster that ended with 0. The link's arrivals were taken up to the end of the run, and everything that the rules send over these
+-- inputs, paced, was sent. What was found is written, and the summary printed.
 pub record CasterDone (names : CasterNames) (old new : Outside) : Type 0 where
   pub session : SessionData
   pub secrets : Secrets
@@ -44,7 +44,7 @@ pub record CasterDone (names : CasterNames) (old new : Outside) : Type 0 where
   pub given : List Arrival
   pub is_given : IsGiven (rules_by session secrets stream) given
   pub taken : new.wire.traffic.taken ≡ old.wire.traffic.taken ++ heard given
-  -- the link told its end exactly where it gave it
+  -- the link reports its end if and only if it gave it
   pub told_end : new.wire.traffic.ended ≡ has_end given
   pub ended : IsTrue (is_ended (rules_by session secrets stream) given)
   pub sent : new.wire.traffic.sent
@@ -52,7 +52,7 @@ pub record CasterDone (names : CasterNames) (old new : Outside) : Type 0 where
       ++ packets session
       (sends_from (caster_step (member_by session secrets) stream) [] 1 (taken_of (rules_by session secrets stream) given))
   pub found : AreFound names.found (rules_by session secrets stream) (taken_of (rules_by session secrets stream) given) new.files.content
-  -- no other file is changed: of those of what was found, only the table file and those of the parties that evidence is kept against
+  -- no other file is changed; of the files of what was found, only the table file and those of the parties against which evidence is kept
   pub others : (path : List ℕ) → path ≢ names.key →
       AllByRecursion (λ f. f.name ≢ path)
       (found_after names.found (rules_by session secrets stream) (taken_of (rules_by session secrets stream) given)) →
@@ -61,7 +61,7 @@ pub record CasterDone (names : CasterNames) (old new : Outside) : Type 0 where
       ≡ old.out.bytes
       ++ shown (caster_summary (rules_by session secrets stream) (taken_of (rules_by session secrets stream) given))
 
--- A broadcaster that was stopped behind the binding of its link.
+-- A broadcaster that was stopped after its link was bound.
 pub record CasterStopped (names : CasterNames) (old new : Outside) : Type 0 where
   pub session : SessionData
   pub secrets : Secrets
@@ -71,13 +71,13 @@ pub record CasterStopped (names : CasterNames) (old new : Outside) : Type 0 wher
   pub given : List Arrival
   pub is_given : IsGiven (rules_by session secrets stream) given
   pub taken : new.wire.traffic.taken ≡ old.wire.traffic.taken ++ heard given
-  -- the link told its end exactly where it gave it
+  -- the link reports its end if and only if it gave it
   pub told_end : new.wire.traffic.ended ≡ has_end given
   pub run : StoppedSending (rules_by session secrets stream) given old.wire new.wire
-  -- a front of the summary may be printed, where the run was at its end
+  -- a prefix of the summary may have been printed, if the run was at its end
   pub printed : IsFrontPrinted (caster_summary (rules_by session secrets stream) (taken_of (rules_by session secrets stream) given)) old new
 
--- The files were accepted, and it was stopped before the link was bound: the key file is spent so far.
+-- The files were accepted, and the command was stopped before the link was bound: a part of the spending of the key may be done.
 pub record CasterBegun (names : CasterNames) (old new : Outside) : Type 0 where
   pub session : SessionData
   pub secrets : Secrets
@@ -85,7 +85,7 @@ pub record CasterBegun (names : CasterNames) (old new : Outside) : Type 0 where
   pub is_of : IsCasterOf names old.files.content session secrets stream
   pub begun : IsBegun (spending names.key session secrets) old new
 
--- whatever the status
+-- what holds at every status
 abbrev pub CasterStands : CasterNames → Outside → Outside → Type 0
 CasterStands names old new = IsUntouched old new ⊎ (CasterBegun names old new ⊎ CasterStopped names old new)
 
@@ -93,11 +93,11 @@ CasterStands names old new = IsUntouched old new ⊎ (CasterBegun names old new 
 abbrev pub IsCasterFile : CasterNames → List ℕ → Type 0
 IsCasterFile names path = (path ≡ names.key) ⊎ IsFindingName names.found path
 
--- the session's text is there, and refused
+-- the session's text exists and is refused
 abbrev pub SessionRefused : CasterNames → Content → Type 0
 SessionRefused names content = (fault : SessionFault) × HasBadSession names.session content fault
 
--- the session is accepted, and the key file is there and refused: spent, or not the broadcaster's
+-- the session is accepted, and the key file exists and is refused: it is spent, or not the broadcaster's
 abbrev pub KeyRefused : CasterNames → Content → Type 0
 KeyRefused names content =
     (s : SessionData)
@@ -105,7 +105,7 @@ KeyRefused names content =
     × HasSession names.session content s
     × IsRefused names.key (fresh_key_of true s) content fault
 
--- both are accepted, and the stream is there and longer than the session has room for
+-- both are accepted, and the stream exists but is too long for the session
 abbrev pub StreamRefused : CasterNames → Content → Type 0
 StreamRefused names content =
     (s : SessionData)
@@ -116,7 +116,7 @@ StreamRefused names content =
     × (readable content names.stream ≡ Some stream)
     × (room_of s < length stream)
 
--- Nothing was changed, or it was stopped before the link was bound; its status isn't 0.
+-- Nothing was changed, or the command was stopped before the link was bound; its status isn't 0.
 abbrev pub IsUnused : CasterNames → Outside → Outside → ℕ → Type 0
 IsUnused names old new status = (IsUntouched old new ⊎ CasterBegun names old new) × (status ≢ 0)
 

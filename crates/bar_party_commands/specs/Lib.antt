@@ -6,4 +6,4 @@ pub mod CasterPlan
 pub mod Stands
 pub mod PeerStands
 pub mod CasterStands
-pub mod Views
+pub mod Code

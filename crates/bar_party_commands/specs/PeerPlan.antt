@@ -1,4 +1,4 @@
--- What `peer` does.
+-- The plan of the command `peer`.
 use Rattle.std.specs.Prelude.{◌≡◌, ℕ, List, [], ◌∷◌, ◌++◌, Some, Ok, false}
 use Rattle.bar_outside.specs.Disk.{Content, readable}
 use Rattle.bar_outside.specs.Plan.{Action, Plan}
@@ -26,11 +26,11 @@ pub record PeerNames : Type 0 where
   pub recording : List ℕ
   pub found : List ℕ
 
--- the rules of the peer whose key it is
+-- the rules of the peer with this key
 abbrev pub rules_by : SessionData → Secrets → Rules
 rules_by s k = peer_rules (member_by s k)
 
--- the key is spent, and the played file and the recording are begun
+-- the key is spent, and the played file and the recording are created
 abbrev pub before_binding : PeerNames → SessionData → Secrets → List Action
 before_binding names s k =
     spending names.key s k
@@ -51,18 +51,18 @@ peer_actions names s k given =
 abbrev pub peer_end : PeerNames → List Arrival → SessionData → Secrets → Plan
 peer_end names given s k = record { actions = peer_actions names s k given; status = status_of (rules_by s k) given; line = [] }
 
--- the key file is read, and accepted, if it is a peer's and fresh, or refused
+-- the key file is read, and accepted if it is a peer's and fresh; otherwise it is refused
 abbrev pub peer_key_stages : PeerNames → List Arrival → SessionData → Stages
 peer_key_stages names given s = fresh_key_stage false names.key s (λ k. does (peer_end names given s k))
 
--- and the session before it
+-- before that the session is read
 abbrev pub peer_stages : PeerNames → List Arrival → Stages
 peer_stages names given = session_stage names.session (peer_key_stages names given)
 
 abbrev pub peer_plan : PeerNames → List Arrival → Content → Plan
 peer_plan names given = plan_by (peer_stages names given)
 
--- The session's text is there and accepted, and so is the key file, which holds these secrets of a peer and is fresh
+-- The session's text exists and is accepted. So is the key file, which is fresh and contains these secrets of a peer.
 pub record PeerAccepted (names : PeerNames) (content : Content) (s : SessionData) (k : Secrets) : Type 0 where
   pub in_session : HasSession names.session content s
   pub bytes : List ℕ

@@ -1,4 +1,4 @@
--- What stands after `peer`.
+-- What holds after the command `peer`.
 use Rattle.std.specs.Prelude.{◌≡◌, ◌≢◌, ◌⊎◌, ℕ, List, [], ◌++◌, Some, IsTrue, false}
 use Rattle.std.specs.List.{AllByRecursion, concat, flat_map}
 use Rattle.bar_outside.specs.Disk.{Content}
@@ -32,7 +32,7 @@ pub record HasOwnNames (names : PeerNames) : Type 0 where
   pub not_recording : names.key ≢ names.recording
   pub not_found : IsApart names.key names.found
 
--- The session and the key were accepted, and the session holds the public key and the anchor that come from the key file's secret.
+-- The session and the key were accepted, and the session contains the public key and the anchor derived from the key file's secret.
 pub record IsPeerOf (names : PeerNames) (content : Content) (s : SessionData) (k : Secrets) : Type 0 where
   pub accepted : PeerAccepted names content s k
   pub fits : Fits s k.party k.secret
@@ -42,14 +42,15 @@ pub record IsBound (names : PeerNames) (s : SessionData) (k : Secrets) (old new 
   pub bound : new.wire.traffic.bound ≡ Some (place_of names.begin_ms s k)
   pub spent : HasOwnNames names → new.files.content names.key ≡ Some (spent_text s k)
 
--- What the link gave was taken, and over these inputs, paced, all that the rules of the peer send was sent, the played file has exactly what
--- they play, and the recording is theirs, with its end. The run was at its end. What was found is written, and the summary printed.
+-- The link's arrivals were taken up to the end of the run, and everything that the peer's rules send over these inputs, paced, was sent.
+-- The played file contains exactly what they play, and the recording contains them and the end mark. What was found is written, and the
+-- summary printed.
 pub record HasRun (names : PeerNames) (s : SessionData) (k : Secrets) (inputs : List Input) (old new : Outside) : Type 0 where
   pub sent : new.wire.traffic.sent ≡ old.wire.traffic.sent ++ packets s (sends_of (member_by s k) inputs)
   pub played : HasOwnNames names → new.files.content names.played ≡ Some (played_by (member_by s k) inputs)
   pub recorded : HasOwnNames names → new.files.content names.recording ≡ Some (recording_bytes s.shape.id k.party inputs)
   pub found : AreFound names.found (rules_by s k) inputs new.files.content
-  -- no other file is changed: of those of what was found, only the table file and those of the parties that evidence is kept against
+  -- no other file is changed; of the files of what was found, only the table file and those of the parties against which evidence is kept
   pub others : (path : List ℕ) → path ≢ names.key → path ≢ names.played → path ≢ names.recording →
       AllByRecursion (λ f. f.name ≢ path) (found_after names.found (rules_by s k) inputs) →
       new.files.content path ≡ old.files.content path
@@ -64,13 +65,13 @@ pub record PeerDone (names : PeerNames) (old new : Outside) : Type 0 where
   pub given : List Arrival
   pub is_given : IsGiven (rules_by session secrets) given
   pub taken : new.wire.traffic.taken ≡ old.wire.traffic.taken ++ heard given
-  -- the link told its end exactly where it gave it
+  -- the link reports its end if and only if it gave it
   pub told_end : new.wire.traffic.ended ≡ has_end given
   pub ended : IsTrue (is_ended (rules_by session secrets) given)
   pub run : HasRun names session secrets (taken_of (rules_by session secrets) given) old new
 
--- A run that was stopped: it sent, played and recorded all of the inputs begun but the last one, and a front of the last one's. What its
--- files have is said where their names differ.
+-- A run that was stopped: it sent, played and recorded everything for the begun inputs but the last, and a prefix of that for the last. The
+-- claims on files require that their names differ.
 pub record HasStopped (names : PeerNames) (s : SessionData) (k : Secrets) (given : List Arrival) (old new : Outside) : Type 0 where
   pub cut : Cut (taken_of (rules_by s k) given)
   pub sent : List Send
@@ -84,7 +85,7 @@ pub record HasStopped (names : PeerNames) (s : SessionData) (k : Secrets) (given
   pub recorded_is : HasOwnNames names →
       new.files.content names.recording ≡ Some (head_bytes s.shape.id k.party ++ (flat_map entry_bytes cut.whole ++ entries))
 
--- A peer that was stopped behind the binding of its link.
+-- A peer that was stopped after its link was bound.
 pub record PeerStopped (names : PeerNames) (old new : Outside) : Type 0 where
   pub session : SessionData
   pub secrets : Secrets
@@ -93,21 +94,21 @@ pub record PeerStopped (names : PeerNames) (old new : Outside) : Type 0 where
   pub given : List Arrival
   pub is_given : IsGiven (rules_by session secrets) given
   pub taken : new.wire.traffic.taken ≡ old.wire.traffic.taken ++ heard given
-  -- the link told its end exactly where it gave it
+  -- the link reports its end if and only if it gave it
   pub told_end : new.wire.traffic.ended ≡ has_end given
   pub run : HasStopped names session secrets given old new
-  -- a front of the summary may be printed, where the run was at its end
+  -- a prefix of the summary may have been printed, if the run was at its end
   pub printed : IsFrontPrinted (peer_summary (rules_by session secrets) (taken_of (rules_by session secrets) given)) old new
 
--- The files were accepted, and it was stopped before the link was bound: in order, the key file is spent, and the played file and the
--- recording are begun, so far.
+-- The files were accepted, and the command was stopped before the link was bound. A prefix of these actions may be done: the key file is
+-- spent, the played file and the recording are created.
 pub record PeerBegun (names : PeerNames) (old new : Outside) : Type 0 where
   pub session : SessionData
   pub secrets : Secrets
   pub is_of : IsPeerOf names old.files.content session secrets
   pub begun : IsBegun (before_binding names session secrets) old new
 
--- whatever the status
+-- what holds at every status
 abbrev pub PeerStands : PeerNames → Outside → Outside → Type 0
 PeerStands names old new = IsUntouched old new ⊎ (PeerBegun names old new ⊎ PeerStopped names old new)
 
@@ -115,11 +116,11 @@ PeerStands names old new = IsUntouched old new ⊎ (PeerBegun names old new ⊎ 
 abbrev pub IsPeerFile : PeerNames → List ℕ → Type 0
 IsPeerFile names path = (path ≡ names.key) ⊎ ((path ≡ names.played) ⊎ ((path ≡ names.recording) ⊎ IsFindingName names.found path))
 
--- the session's text is there, and refused
+-- the session's text exists and is refused
 abbrev pub SessionRefused : PeerNames → Content → Type 0
 SessionRefused names content = (fault : SessionFault) × HasBadSession names.session content fault
 
--- the session is accepted, and the key file is there and refused: spent, or no key of a peer of the session
+-- the session is accepted, and the key file exists and is refused: it is spent, or not the key of a peer of the session
 abbrev pub KeyRefused : PeerNames → Content → Type 0
 KeyRefused names content =
     (s : SessionData)
@@ -127,7 +128,7 @@ KeyRefused names content =
     × HasSession names.session content s
     × IsRefused names.key (fresh_key_of false s) content fault
 
--- Nothing was changed, or it was stopped before the link was bound; its status isn't 0.
+-- Nothing was changed, or the command was stopped before the link was bound; its status isn't 0.
 abbrev pub IsUnused : PeerNames → Outside → Outside → ℕ → Type 0
 IsUnused names old new status = (IsUntouched old new ⊎ PeerBegun names old new) × (status ≢ 0)
 

@@ -3,7 +3,7 @@ use Rattle.std.specs.Prelude.{◌≡◌, ◌≢◌, ℕ, List, ◌∷◌, [], �
 use Rattle.std.specs.List.{AllByRecursion}
 use Rattle.bar_outside.specs.Disk.{Content}
 use Rattle.bar_outside.specs.Ends.{Ends, EndsWith}
-use Rattle.bar_outside.specs.Follows.{Follows, IsReliable}
+use Rattle.bar_outside.specs.Code.Follows.{Follows, IsReliable}
 use Rattle.bar_outside.specs.declared.fault.Fault.{Fault}
 use Rattle.bar_outside.specs.Plan.{Action, Begun, Outside, Plan, Ran}
 use Rattle.bar_outside.specs.Plan.Action.{append, create, link}
@@ -14,54 +14,55 @@ use Rattle.bar_seeds.specs.declared.secrets.Secrets.{Secrets}
 use Rattle.bar_roster.specs.KeyAnew.{text_of}
 use Rattle.bar_session.specs.SessionData.{SessionData}
 use Rattle.bar_core.specs.Rules.{Rules}
-use Rattle.bar_node.specs.Effects.{received_in}
+use Rattle.bar_node.specs.Code.Effects.{received_in}
 use Rattle.bar_node.specs.Runs.{AsksToTheEnd, has_end, heard, inputs_of, is_ended}
 
--- This is what the link gave: it tells it as taken, and its end where it gave it. No datagram is larger than one can be.
+-- The link gave exactly this: it reports these arrivals as taken, and its end if it gave it. No datagram exceeds the largest size.
 pub record HasHeard (given : List Arrival) (old new : Outside) : Type 0 where
   pub taken : new.wire.traffic.taken ≡ old.wire.traffic.taken ++ heard given
   pub told_end : has_end given ≡ true → new.wire.traffic.ended ≡ true
   pub within : AllByRecursion IsInRange (inputs_of given)
 
--- So much was done of some actions: a front of them, and maybe a part of the one behind it. What it received is exactly what the link gave.
+-- Some actions were done in part: a prefix of them, and possibly a part of the next one. What was done received exactly what the link gave.
 pub record HasReached (actions : List Action) (given : List Arrival) (old new : Outside) : Type 0 where
   pub done : List Action
   pub begun : Begun actions done
   pub received : received_in done ≡ given
   pub ran : Ran done old new
 
--- The link is asked no further than up to the end of the run: over less than it gave, the plan has the status of a link that is asked again.
+-- The link isn't asked after the end of the run: for every shorter prefix of what it gave, the plan has status 6, for a link that is asked
+-- again.
 abbrev pub AsksNoFurther : (List Arrival → Plan) → List Arrival → Type 0
 AsksNoFurther plan given =
     (front : List Arrival) (next : Arrival) (rest : List Arrival) → given ≡ front ++ next ∷ rest → (plan front).status ≡ 6
 
--- A command whose plan goes by what the link gives, and by what the files held, ended with this status.
+-- A command whose plan depends on what the link gives and on what the files held ended with this status.
 pub record RunEnds (plan : List Arrival → Content → Plan) (old new : Outside) (status : ℕ) : Type 0 where
   pub given : List Arrival
   pub heard : HasHeard given old new
   pub ends : Ends (plan given) old new status
   pub reached : IsTrue new.files.told → HasReached (plan given old.files.content).actions given old new
   pub asked : IsTrue new.files.told → AsksNoFurther (λ front. plan front old.files.content) given
-  -- where nothing fails by itself, the link is never refused
+  -- if the outside is reliable, the link never refuses a call
   pub answers : IsReliable old → status ≢ 6
 
--- it ended so, and this is the line of its end
+-- the command ended like this, and this is the line of its end
 pub record RunEndsWith (plan : List Arrival → Content → Plan) (old new : Outside) (status : ℕ) (line : List ℕ) : Type 0 where
   pub given : List Arrival
   pub heard : HasHeard given old new
   pub ends : EndsWith (plan given) old new status line
   pub reached : IsTrue new.files.told → HasReached (plan given old.files.content).actions given old new
   pub asked : IsTrue new.files.told → AsksNoFurther (λ front. plan front old.files.content) given
-  -- where nothing fails by itself, the link is never refused
+  -- if the outside is reliable, the link never refuses a call
   pub answers : IsReliable old → status ≢ 6
 
 -- ---- what `peer` and `broadcaster` have in common
 
--- the text of a key that is spent
+-- the text of a spent key
 abbrev pub spent_text : SessionData → Secrets → List ℕ
 spent_text s k = text_of s k true
 
--- the key file is written anew, as spent
+-- the key file is replaced by the spent key
 abbrev pub spending : List ℕ → SessionData → Secrets → List Action
 spending key s k = create key ∷ append key (spent_text s k) ∷ []
 
@@ -72,11 +73,11 @@ place_of begin_ms s k = bound_by k.party s.port begin_ms s.tick_ms
 abbrev pub binding : ℕ → SessionData → Secrets → Action
 binding begin_ms s k = link (bind (place_of begin_ms s k))
 
--- The status of a run that is done. One that isn't at its end asks the link again, and ends only where that is refused.
+-- The status of a run whose actions are all done. A run that isn't at its end asks the link again, and stops only if that call is refused.
 abbrev pub status_of : Rules → List Arrival → ℕ
 status_of r given = if is_ended r given then 0 else 6
 
--- A list of actions that goes by what the link gives was followed.
+-- A list of actions that depends on what the link gives was followed.
 pub record RunFollows {T : Type 0} (actions : List Arrival → List Action) (r : Rules) (old new : Outside) (result : Result T Fault) : Type 0 where
   pub given : List Arrival
   pub heard : HasHeard given old new
@@ -85,12 +86,12 @@ pub record RunFollows {T : Type 0} (actions : List Arrival → List Action) (r :
   pub asked : AsksToTheEnd r given
   pub ended : OnOk result (IsTrue (is_ended r given))
 
--- ---- words for laws on how such a command ends, where the files tell what they hold
+-- ---- notation for laws on how such a command ends, if the reads agree with the content
 
--- at whatever status it ended
+-- at every status
 abbrev pub OfEachRun : (List Arrival → Content → Plan) → (Outside → Outside → ℕ → Type 0) → Type 0
 OfEachRun plan P = (old new : Outside) (status : ℕ) → RunEnds plan old new status → IsTrue new.files.told → P old new status
 
--- where it ended with this status
+-- at this status
 abbrev pub AtRunEnd : ℕ → (List Arrival → Content → Plan) → (Outside → Outside → Type 0) → Type 0
 AtRunEnd status plan P = (old new : Outside) → RunEnds plan old new status → IsTrue new.files.told → P old new

@@ -1,5 +1,5 @@
--- What stands after a command that runs over a link: words for `peer` and `broadcaster` alike.
-use Rattle.std.specs.Prelude.{◌≡◌, ◌≤◌, ℕ, List, ◌++◌, Some, IfSome, IsTrue, map, take}
+-- What holds after a command that runs over a link, for `peer` and `broadcaster` alike.
+use Rattle.std.specs.Prelude.{◌≡◌, ◌≤◌, ℕ, List, ◌++◌, Some, IfSome, map, take}
 use Rattle.bar_outside.specs.Disk.{Content}
 use Rattle.bar_outside.specs.Ends.{NothingPrinted, SameFiles, SameTraffic}
 use Rattle.bar_outside.specs.Plan.{Action, Begun, Outside, Ran, shown}
@@ -11,13 +11,13 @@ use Rattle.bar_rules.specs.Member.{Session}
 use Rattle.bar_rules.specs.Values.{datagram_bytes}
 use Rattle.bar_core.specs.Rules.{Rules, Send}
 
--- No file holds anything else than before, nothing was printed, and nothing was done over the link.
+-- The content of every file is unchanged, nothing was printed, and nothing was done over the link.
 pub record IsUntouched (old new : Outside) : Type 0 where
   pub files : SameFiles old new
   pub out : NothingPrinted old new
   pub wire : SameTraffic old new
 
--- A front of these actions was done, and maybe a part of the next; nothing was printed, and nothing was done over the link.
+-- A prefix of these actions was done, and possibly a part of the next; nothing was printed, and nothing was done over the link.
 pub record IsBegun (actions : List Action) (old new : Outside) : Type 0 where
   pub done : List Action
   pub begun : Begun actions done
@@ -25,14 +25,14 @@ pub record IsBegun (actions : List Action) (old new : Outside) : Type 0 where
   pub out : NothingPrinted old new
   pub wire : SameTraffic old new
 
--- The table file has exactly the manifests that are kept, by round, and each peer that evidence is kept against has a file with exactly this
--- evidence.
+-- The table file contains exactly the manifests that are kept, by round. Each peer against which evidence is kept has a file with exactly
+-- this evidence.
 pub record AreFound (found : List ℕ) (r : Rules) (taken : List Input) (content : Content) : Type 0 where
   pub table : content (table_name found) ≡ Some (table_bytes (in_order (r.manifest taken) r.rounds))
   pub evidence : (party : ℕ) → 1 ≤ party → party ≤ r.peers →
       IfSome (r.evidence taken party) (λ kept. content (evidence_name found party) ≡ Some kept)
 
--- a front of what some actions print was printed
+-- a prefix of what some actions print was printed
 abbrev pub IsFrontPrinted : List Action → Outside → Outside → Type 0
 IsFrontPrinted actions old new = (k : ℕ) × (new.out.bytes ≡ old.out.bytes ++ take k (shown actions))
 

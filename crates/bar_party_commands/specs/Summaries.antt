@@ -1,4 +1,4 @@
--- What a run prints at its end.
+-- The summary that a run prints at its end.
 use Rattle.std.specs.Prelude.{ℕ, ◌==◌, ◌||◌, Bool, List, [], ◌∷◌, ◌++◌, Option, None, Some, codes, if◌then◌else◌}
 use Rattle.std.specs.Fmt.{decimal}
 use Rattle.std.specs.List.{flat_map, range_with_len}
@@ -15,15 +15,15 @@ abbrev pub peer_line : Summary → List ℕ
 peer_line s =
     codes "ticks " ++ (decimal s.ticks ++ (codes " sent " ++ (decimal s.sent ++ (codes " played " ++ (decimal s.played ++ codes "\n")))))
 
--- the line of a broadcaster's
+-- the line of a broadcaster's counts
 abbrev pub caster_line : Summary → List ℕ
 caster_line s = codes "ticks " ++ (decimal s.ticks ++ (codes " sent " ++ (decimal s.sent ++ codes "\n")))
 
--- a word and a party
+-- a label and a party's number
 abbrev pub party_line : List ℕ → ℕ → List ℕ
 party_line word party = word ++ (decimal party ++ codes "\n")
 
--- a line for a party, where evidence against it is kept
+-- a line for a party, if evidence against it is kept
 abbrev pub shown_if : List ℕ → ℕ → Option (List ℕ) → List Action
 shown_if word party None = []
 shown_if word party (Some evidence) = show (party_line word party) ∷ []
@@ -38,7 +38,8 @@ evidence_word = codes "evidence "
 abbrev pub evicted_word : List ℕ
 evicted_word = codes "evicted "
 
--- what a peer prints behind the inputs that it took, and what a broadcaster prints, which evicts the parties that it keeps evidence against
+-- what a peer and a broadcaster print after the inputs that they took; the broadcaster's lines name the parties that it evicts, against
+-- which it keeps evidence
 
 abbrev pub peer_summary : Rules → List Input → List Action
 peer_summary r taken = show (peer_line (summary_of r taken)) ∷ shown_parties evidence_word (r.evidence taken) r.peers
@@ -46,7 +47,7 @@ peer_summary r taken = show (peer_line (summary_of r taken)) ∷ shown_parties e
 abbrev pub caster_summary : Rules → List Input → List Action
 caster_summary r taken = show (caster_line (summary_of r taken)) ∷ shown_parties evicted_word (r.evidence taken) r.peers
 
--- it is printed where the run is at its end
+-- the summary is printed if the run is at its end
 abbrev pub at_end : (Rules → List Input → List Action) → Rules → List Arrival → List Action
 at_end summary r given = if is_ended r given then summary r (taken_of r given) else []
 

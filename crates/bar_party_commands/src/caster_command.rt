@@ -2,23 +2,23 @@
 ghost use Rattle.std.specs.Prelude.{◌≡◌, [], List, Err, true, false};
 ghost use Rattle.bar_outside.specs.Disk.{Content};
 ghost use Rattle.bar_outside.specs.Plan.{Outside, outside, with_out};
-ghost use Rattle.bar_outside.specs.Follows.{Follows};
-ghost use Rattle.bar_outside.specs.MemTaken.{bound_in};
+ghost use Rattle.bar_outside.specs.Code.Follows.{Follows};
+ghost use Rattle.bar_outside.specs.Code.MemTaken.{bound_in};
 ghost use Rattle.bar_outside.specs.Stages.{plan_by};
 ghost use Rattle.bar_wire.specs.Inputs.{Input};
 ghost use Rattle.bar_seeds.specs.declared.secrets.Secrets.{Secrets as Held};
-ghost use Rattle.bar_core.specs.Orders.{left_in};
+ghost use Rattle.bar_core.specs.Code.Orders.{left_in};
 ghost use Rattle.bar_hss.specs.Files.{IsPartyKeyOf};
 ghost use Rattle.bar_session.specs.SessionData.{SessionData};
 ghost use Rattle.bar_rules.specs.Members.{member_by};
-ghost use Rattle.bar_caster.specs.Core.{caster_rules};
-ghost use Rattle.bar_caster.specs.Memory.{member_of, stream_of};
-ghost use Rattle.bar_caster.specs.StandsFor.{StandsFor};
+ghost use Rattle.bar_caster.specs.Code.Core.{caster_rules};
+ghost use Rattle.bar_caster.specs.Code.Memory.{member_of, stream_of};
+ghost use Rattle.bar_caster.specs.Code.StandsFor.{StandsFor};
 ghost use Rattle.bar_node.specs.Runs.{summary_of};
 ghost use Rattle.bar_party_commands.specs.CasterPlan.{caster_actions, caster_key_stages, caster_plan, caster_stream_stages};
 ghost use Rattle.bar_party_commands.specs.Running.{RunEndsWith, RunFollows, place_of, spent_text};
 ghost use Rattle.bar_party_commands.specs.Summaries.{caster_summary, may_print};
-ghost use Rattle.bar_party_commands.specs.Views.{caster_view, code_of_run, said_by_run};
+ghost use Rattle.bar_party_commands.specs.Code.Views.{caster_view, code_of_run, said_by_run};
 
 use crate::caster_names::CasterNames;
 use crate::ended::Ended;
@@ -32,7 +32,7 @@ use bar_roster::{KeyFileFault, Session, SessionFault};
 use bar_session_files::{read_fresh_key, read_session};
 use std::alloc::Global;
 
-/// Reads the session and goes on, if it is accepted.
+/// Reads the session and continues if it is accepted.
 pub fn broadcaster<F: Files, L: Link, K: Sink>(
     alloc: Global,
     names: &CasterNames<'_>,
@@ -53,7 +53,7 @@ pub fn broadcaster<F: Files, L: Link, K: Sink>(
     }
 }
 
-/// Reads the key file and goes on, if it is accepted.
+/// Reads the key file and continues if it is accepted.
 fn cast_in_session<F: Files, L: Link, K: Sink>(
     alloc: Global,
     session: Session,
@@ -75,7 +75,7 @@ fn cast_in_session<F: Files, L: Link, K: Sink>(
     }
 }
 
-/// Reads the stream and goes on, if it fits.
+/// Reads the stream and continues if it fits.
 fn cast_stream<F: Files, L: Link, K: Sink>(
     alloc: Global,
     session: Session,

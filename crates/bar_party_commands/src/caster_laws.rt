@@ -1,8 +1,8 @@
-//! What each exit status of `broadcaster` means, and what then stands.
+//! What each exit status of `broadcaster` means, and what then holds.
 ghost use Rattle.std.specs.Prelude.{IsTrue, ◌≡◌, ◌⊎◌, ℕ, List};
-ghost use Rattle.bar_outside.specs.Causes.{Rose};
+ghost use Rattle.bar_outside.specs.Code.Causes.{Rose};
 ghost use Rattle.bar_outside.specs.Ends.{UnlessStopped};
-ghost use Rattle.bar_outside.specs.Follows.{IsReliable};
+ghost use Rattle.bar_outside.specs.Code.Follows.{IsReliable};
 ghost use Rattle.bar_outside.specs.Plan.{Outside};
 ghost use Rattle.bar_seeds.specs.declared.secrets.Secrets.{Secrets};
 ghost use Rattle.bar_session.specs.SessionData.{SessionData};
@@ -17,7 +17,7 @@ use bar_outside::stages_go_in_order;
 use bar_record::paced_inputs_are_few;
 use bar_roster::laws::{accepted_secrets_are_held, accepted_sessions_are_in_range};
 
-/// 0 comes only where the files were accepted and the run came to its end; then all was sent, written and printed.
+/// 0 is returned only if the files were accepted and the run completed; then everything was sent, written and printed.
 pub fn a_broadcaster_is_done()
     ensures { (names : CasterNames) → AtRunEnd 0 (caster_plan names) (CasterDone names) }
 {
@@ -30,8 +30,8 @@ pub fn a_broadcaster_is_done()
     rules_give_the_run();
 }
 
-/// Whatever the status: nothing was changed; or the files were accepted, and the key is spent so far; or the link is bound, the key is
-/// spent, and the run was done so far, in order.
+/// At every status one of these holds. Nothing was changed; or the files were accepted, and the key may be spent in part; or the link is
+/// bound, the key is spent, and the run was done in order up to some point.
 pub fn a_broadcaster_stands()
     ensures { (names : CasterNames) → OfEachRun (caster_plan names) (λ old new status. CasterStands names old new) }
 {
@@ -41,7 +41,7 @@ pub fn a_broadcaster_stands()
     stages_go_in_order();
 }
 
-/// Whatever the status, the link wasn't used, and the status isn't 0; or the link is bound to the broadcaster, and the key is spent.
+/// At every status, either the link wasn't used and the status isn't 0, or the link is bound to the broadcaster and the key is spent.
 pub fn a_bound_broadcaster_has_spent_its_key()
     ensures { (names : CasterNames) → OfEachRun (caster_plan names) (λ old new status. IsBoundOrUnused names old new status) }
 {
@@ -49,7 +49,7 @@ pub fn a_bound_broadcaster_has_spent_its_key()
     stages_go_in_order();
 }
 
-/// Whatever the status, only the key file and the files of what was found are changed.
+/// At every status, only the key file and the files of what was found are changed.
 pub fn only_its_files_are_changed_by_a_broadcaster()
     ensures { (names : CasterNames) (path : List ℕ) → OfEachRun (caster_plan names) (λ old new status.
         (IsCasterFile names path → ⊥) → new.files.content path ≡ old.files.content path) }
@@ -57,8 +57,8 @@ pub fn only_its_files_are_changed_by_a_broadcaster()
     stages_go_in_order();
 }
 
-/// 4, 5 and 8 come exactly where the session, the key file or the stream is there and refused, but for a fault or want of memory; then
-/// nothing was changed, and no key is spent.
+/// 4, 5 and 8 are returned if and only if the session, the key file or the stream exists and is refused, unless a fault or running out of
+/// memory stops the command. Then nothing was changed, and no key is spent.
 pub fn a_refused_broadcaster_changes_nothing()
     ensures session { (names : CasterNames) → AtRunEnd 4 (caster_plan names) (λ old new.
         SessionRefused names old.files.content × IsUntouched old new) }
@@ -76,7 +76,7 @@ pub fn a_refused_broadcaster_changes_nothing()
     stages_go_in_order();
 }
 
-/// Where the files are accepted and no count rose, the status is 0, but for want of memory. So it is where nothing fails by itself.
+/// If the files are accepted and no fault count rose, the status is 0, unless memory runs out. The same holds if the outside is reliable.
 pub fn a_broadcaster_is_done_where_all_is_accepted()
     ensures without_faults { (names : CasterNames) (s : SessionData) (k : Secrets) (stream : List ℕ) →
         OfEachRun (caster_plan names) (λ old new status. CasterAccepted names old.files.content s k stream →

@@ -3,17 +3,17 @@ ghost use Rattle.std.specs.Prelude.{◌≡◌, ◌≢◌, ◌∷◌, [], List, E
 ghost use Rattle.bar_outside.specs.Disk.{Content};
 ghost use Rattle.bar_outside.specs.Plan.{Outside, outside, with_files, with_out};
 ghost use Rattle.bar_outside.specs.Plan.Action.{append, create};
-ghost use Rattle.bar_outside.specs.Follows.{Follows};
+ghost use Rattle.bar_outside.specs.Code.Follows.{Follows};
 ghost use Rattle.bar_outside.specs.Stages.{plan_by};
 ghost use Rattle.bar_wire.specs.Inputs.{Input};
 ghost use Rattle.bar_hss.specs.Files.{IsPartyKeyOf};
-ghost use Rattle.bar_peer.specs.Memory.{member_of};
+ghost use Rattle.bar_peer.specs.Code.Memory.{member_of};
 ghost use Rattle.bar_peer.specs.Core.{peer_rules};
-ghost use Rattle.bar_peer.specs.StandsFor.{StandsFor};
+ghost use Rattle.bar_peer.specs.Code.StandsFor.{StandsFor};
 ghost use Rattle.bar_party_commands.specs.PeerPlan.{peer_actions, peer_key_stages, peer_plan, rules_by};
 ghost use Rattle.bar_party_commands.specs.Running.{RunEndsWith, RunFollows};
 ghost use Rattle.bar_party_commands.specs.Summaries.{may_print, peer_summary};
-ghost use Rattle.bar_party_commands.specs.Views.{code_of_run, peer_view, said_by_run};
+ghost use Rattle.bar_party_commands.specs.Code.Views.{code_of_run, peer_view, said_by_run};
 ghost use Rattle.bar_node.specs.Runs.{summary_of};
 
 use crate::ended::Ended;
@@ -29,7 +29,7 @@ use bar_roster::{KeyFileFault, Session, SessionFault};
 use bar_session_files::{read_fresh_key, read_session};
 use std::alloc::Global;
 
-/// Reads the session and goes on, if it is accepted.
+/// Reads the session and continues if it is accepted.
 pub fn peer<F: Files, L: Link, K: Sink>(
     alloc: Global,
     names: &PeerNames<'_>,
@@ -51,7 +51,7 @@ pub fn peer<F: Files, L: Link, K: Sink>(
     }
 }
 
-/// Reads the key file and goes on, if it is accepted.
+/// Reads the key file and continues if it is accepted.
 fn peer_of_session<F: Files, L: Link, K: Sink>(
     alloc: Global,
     session: Session,
@@ -77,7 +77,7 @@ fn peer_of_session<F: Files, L: Link, K: Sink>(
     }
 }
 
-/// Spends the key, begins the files, binds the link, runs over it, and prints the summary.
+/// Spends the key, creates the files, binds the link, runs over it, and prints the summary.
 fn peer_of_key<F: Files, L: Link, K: Sink>(
     alloc: Global,
     session: Session,

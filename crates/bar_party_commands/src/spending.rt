@@ -1,11 +1,11 @@
 //! Spending a key, and binding a link.
 ghost use Rattle.std.specs.Prelude.{◌≡◌, ◌∷◌, [], IfOk};
 ghost use Rattle.bar_outside.specs.Disk.{Content};
-ghost use Rattle.bar_outside.specs.MemTaken.{bound_in};
+ghost use Rattle.bar_outside.specs.Code.MemTaken.{bound_in};
 ghost use Rattle.bar_outside.specs.Plan.{Outside, with_files, with_wire};
 ghost use Rattle.bar_outside.specs.Plan.Action.{append, create, link as call};
 ghost use Rattle.bar_outside.specs.Plan.LinkCall.{bind};
-ghost use Rattle.bar_outside.specs.Follows.{Follows};
+ghost use Rattle.bar_outside.specs.Code.Follows.{Follows};
 ghost use Rattle.bar_party_commands.specs.Running.{spent_text};
 
 use bar_outside::{Fault, Files, Link, Place, append_file, bind_link, create_file};
@@ -13,7 +13,7 @@ use bar_roster::{KeyData, Session};
 use bar_seeds::Secrets;
 use std::alloc::{AllocError, Global};
 
-/// The text of a key of the session that is spent.
+/// The text of a spent key of the session.
 pub fn spent_text(
     alloc: Global,
     session: &Session,
@@ -37,7 +37,7 @@ pub fn spent_text(
     key.text(alloc)
 }
 
-/// Writes a file anew.
+/// Replaces a file's content.
 pub fn write_anew<F: Files>(files: &mut F, path: &str, bytes: &[u8]) -> Result<(), Fault>
     ensures { (w : Outside) (was : Content) → Follows (create path.now ∷ append path.now bytes.now ∷ [])
         (with_files w (F.disk files.old was)) (with_files w (F.disk files.new was)) result }

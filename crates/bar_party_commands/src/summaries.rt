@@ -1,8 +1,8 @@
-//! What a run prints at its end.
+//! The summary that a run prints at its end.
 ghost use Rattle.std.specs.Prelude.{◌≡◌, IfOk, string_bytes};
-ghost use Rattle.bar_bytes.specs.Rooms.{kept_in};
+ghost use Rattle.bar_bytes.specs.Code.Rooms.{kept_in};
 ghost use Rattle.bar_outside.specs.Plan.{Outside, with_out};
-ghost use Rattle.bar_outside.specs.Follows.{Follows};
+ghost use Rattle.bar_outside.specs.Code.Follows.{Follows};
 ghost use Rattle.bar_party_commands.specs.Summaries.{caster_line, party_line, peer_line, shown_if, shown_parties};
 
 use bar_bytes::Rooms;
@@ -30,14 +30,14 @@ pub fn caster_line(alloc: Global, summary: &Summary) -> Result<String, AllocErro
     format!(in alloc; "ticks {ticks} sent {sent}\n")
 }
 
-/// The line of a word and a party.
+/// The line for a party: a label and the party's number.
 fn party_line(alloc: Global, word: &str, party: u16) -> Result<String, AllocError>
     ensures { IfOk result (λ line. string_bytes line ≡ party_line word.now party) }
 {
     format!(in alloc; "{word}{party}\n")
 }
 
-/// Shows the line of a party, where evidence against it is kept.
+/// Shows the line of a party, if evidence against it is kept.
 fn show_party<K: Sink>(
     alloc: Global,
     word: &str,
@@ -54,7 +54,7 @@ fn show_party<K: Sink>(
     }
 }
 
-/// Shows a line for each of so many peers that evidence is kept against, in increasing order.
+/// Shows a line for each of the first `peers` peers against which evidence is kept, in increasing order.
 pub fn show_parties<K: Sink>(
     alloc: Global,
     word: &str,

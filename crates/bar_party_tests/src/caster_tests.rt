@@ -1,4 +1,4 @@
-//! Whole broadcasters: what they send and whom they evict, worked out by hand from the rules.
+//! Tests of whole broadcasters: what they send and whom they evict. The expected values are worked out by hand from the rules.
 
 pub mod casters;
 
@@ -12,7 +12,7 @@ use std::alloc::{AllocError, Global};
 use std::process::Abort;
 use std::test::Fail;
 
-/// What a datagram of a kind begins with.
+/// The start of a datagram of a kind.
 fn front(kind: u8) -> [u8; 12] {
     let [a, b, c, d, e, f, g, h] = ID;
     [0xba, 0x47, 1, kind, a, b, c, d, e, f, g, h]
@@ -31,7 +31,7 @@ fn check_counts(rt: &impl Abort, sends: &[Sent], kind: u8, len: usize, expected:
     assert_eq!(rt; counts(sends, &front(kind), len), expected);
 }
 
-/// Checks how many datagrams the next ticks send, so many of which are taken together.
+/// Checks how many datagrams the next ticks send. Each part counts those of several ticks together.
 fn check_ticks(
     rt: &impl Abort,
     alloc: Global,
@@ -45,7 +45,7 @@ fn check_ticks(
     Ok(())
 }
 
-/// Checks the same of a broadcaster of two updates, up to its last tick.
+/// Checks the same for a broadcaster of two updates, up to its last tick.
 fn check_stream(
     rt: &impl Abort,
     alloc: Global,
@@ -56,8 +56,8 @@ fn check_stream(
     Ok(check_ticks(rt, alloc, &mut caster, parts)?)
 }
 
-/// The slots of two rounds, and all that follow. Round 1 has a MANIFEST, and each of its two blocks goes to one peer twice; the other rounds
-/// have a MANIFEST alone.
+/// The slots of two rounds, and all that follow. Round 1 has a MANIFEST, and each of its two blocks is sent to one peer twice. The other
+/// rounds have a MANIFEST alone.
 const SLOTS: [(u8, usize); 10] = [
     (1, 2),
     (1, 2),
@@ -76,8 +76,8 @@ fn manifests_and_blocks_have_their_slots(rt: HostRuntime) -> Result<(), Fail> {
     check_stream(&rt, rt.alloc(), session(), &SLOTS)
 }
 
-/// The same in version 3, in which the MANIFEST of each round goes out once more in slot 2 of the round after it; that of round 20 does in tick
-/// 163, and then nothing.
+/// The same in version 3, in which the MANIFEST of each round is sent once more in slot 2 of the next round. That of round 20 is sent in
+/// tick 163, and nothing after it.
 const SLOTS_OF_3: [(u8, usize); 15] = [
     (1, 2),
     (1, 2),
@@ -101,7 +101,7 @@ fn a_manifest_is_said_again_in_the_round_after_it(rt: HostRuntime) -> Result<(),
     check_stream(&rt, rt.alloc(), third_session(), &SLOTS_OF_3)
 }
 
-/// A REQUEST of round 6 from peer 1 to peer 2, with a commitment of 32 equal bytes, which signs a seed of zeros.
+/// A signed REQUEST of round 6 from peer 1 to peer 2, with a seed of zeros and a commitment of 32 equal bytes.
 fn request(alloc: Global, scheme: &LmsScheme, commitment: u8) -> Result<Vec<u8>, AllocError> {
     let mut message = front(REQUEST).to_vec(alloc)?;
     message.extend_from_slice(&[0, 1, 0, 2, 0, 0, 0, 6])?;
@@ -110,7 +110,7 @@ fn request(alloc: Global, scheme: &LmsScheme, commitment: u8) -> Result<Vec<u8>,
     signed(alloc, scheme, 0, &message)
 }
 
-/// The EVIDENCE of peer 2 that has these datagrams.
+/// The EVIDENCE of peer 2 with these datagrams.
 fn evidence(alloc: Global, datagrams: [&[u8]; 2]) -> Result<Vec<u8>, AllocError> {
     let mut bytes = front(EVIDENCE).to_vec(alloc)?;
     bytes.extend_from_slice(&[0, 2, 0, 0, 2])?;
@@ -134,7 +134,7 @@ fn check_evicted(
     assert!(rt; caster.evidence(2).is_none());
 }
 
-/// Two different REQUESTs that peer 1 signed, in this order and in the other.
+/// Evidence of two different REQUESTs that peer 1 signed, in both orders.
 fn evidence_of_two(alloc: Global) -> Result<[Vec<u8>; 2], Fail> {
     let scheme = scheme_of(alloc, session(), 8)?;
     let one = request(alloc, &scheme, 1)?;

@@ -1,6 +1,6 @@
-//! What a peer remembers of its exchanges, by their numbers in order, and the rounds in which a key is owed.
+//! Tests of what a peer remembers of its exchanges, by their numbers in order, and of the rounds in which a key is owed.
 ghost use Rattle.std.specs.Prelude.{◌≡◌};
-ghost use Rattle.bar_ledger.specs.Memory.{HasSame};
+ghost use Rattle.bar_ledger.specs.Code.Memory.{HasSame};
 
 use bar_ledger::{Entry, Ledger};
 use bar_samples::sessions::ID;
@@ -9,7 +9,7 @@ use bar_wire::{Kind, Shape};
 use std::process::Abort;
 use std::test::Fail;
 
-/// What a session of a version says of its datagrams.
+/// The shape of the datagrams of a session of this version.
 fn shape_of(version: u8) -> Shape
     ensures { result.sig_len ≡ 1292 }
 {

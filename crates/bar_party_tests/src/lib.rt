@@ -1,6 +1,6 @@
-//! Tests of what peers remember, of whole peers and broadcasters, and of all parties together, by their public calls.
+//! Tests of what peers remember, of whole peers and broadcasters, and of all parties together, through their public calls.
 //!
-//! They stand in a crate of their own, since a crate with tests is proved twice.
+//! They are in a crate of their own, because a crate with tests is proved twice.
 #![tactic(auto)]
 
 #[cfg(test)]

@@ -1,5 +1,5 @@
-//! A whole peer and its partner in a trade: what they hold, play, send and report, worked out by hand from the rules. Other exchanges are tried
-//! by replays of the built program.
+//! Tests of a whole peer and its partner in a trade: what they hold, play, send and report. The expected values are worked out by hand from
+//! the rules. Replays of the built program test other exchanges.
 
 pub mod datagrams;
 pub mod pair;
@@ -31,7 +31,7 @@ const SMALL_TRADE: &[Row] = &[
     (1, 9, &[]),
 ];
 
-/// Gives both peers what they hold in a round: of the round before, of the one before that, and of the third one back, which comes first.
+/// Gives both peers the manifests and updates that they hold in a round. `rounds` are the three rounds before it, in ascending order.
 fn tell_held(
     rt: &impl Abort,
     alloc: Global,
@@ -69,7 +69,7 @@ fn check_trade(rt: &impl Abort, alloc: Global, pair: &mut Pair) -> Result<(), Al
     Ok(())
 }
 
-/// A REQUEST of peer 1 in round 6 whose seed is none of peer 1's.
+/// A REQUEST of peer 1 in round 6 whose seed isn't one of peer 1's.
 fn stray_request(alloc: Global) -> Result<Vec<u8>, Fail> {
     let mut message = front(Kind::Request, 1, 2, 6).to_vec(alloc)?;
     message.extend_from_slice(&[0; 64])?;
@@ -77,12 +77,12 @@ fn stray_request(alloc: Global) -> Result<Vec<u8>, Fail> {
     Ok(signed(alloc, &scheme, 0, &message)?)
 }
 
-/// Whether bytes are a datagram after so many bytes of other things.
+/// Whether `bytes` consist of `before` other bytes and then a datagram.
 fn holds(bytes: &[u8], datagram: &[u8], before: usize) -> bool {
     bytes.len().saturating_sub(datagram.len()) == before && bytes.ends_with(datagram)
 }
 
-/// Peer 2 keeps it as evidence, and reports it to the broadcaster.
+/// Peer 2 keeps the REQUEST as evidence, and reports it to the broadcaster.
 fn check_stray(
     rt: &impl Abort,
     alloc: Global,
@@ -115,7 +115,8 @@ fn check_traded(rt: &impl Abort, alloc: Global, pair: &mut Pair) -> Result<(), A
     check_totals_end(rt, alloc, pair, x)
 }
 
-/// From the first tick of round 9 on: the totals of an exchange of round 6 are told up to the end of round 10, a life after it, and no longer.
+/// Starts at the first tick of round 9. The totals of an exchange of round 6 are available up to the end of round 10, a life after it, and
+/// no longer.
 fn check_totals_end(
     rt: &impl Abort,
     alloc: Global,

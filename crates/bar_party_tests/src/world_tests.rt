@@ -1,8 +1,8 @@
-//! A world: all parties of a session together, over moves.
+//! Tests of a world: all parties of a session together, over moves.
 ghost use Rattle.bar_wire.specs.Limits.{largest_content};
-ghost use Rattle.bar_world.specs.Kept.{IsReady};
+ghost use Rattle.bar_world.specs.Code.Kept.{IsReady};
 ghost use Rattle.bar_world.specs.Made.{AreNumbers, session_by};
-ghost use Rattle.bar_world.specs.Setups.{AreOfParties};
+ghost use Rattle.bar_world.specs.Code.Setups.{AreOfParties};
 ghost use Rattle.std.specs.Prelude.{◌≡◌, ◌+◌, ◌*◌, ◌≤◌, length, IfOk, OnOk};
 
 use bar_lms::{Height, Ots, Params};
@@ -20,7 +20,7 @@ const PARAMS: Params = Params {
     ots: Ots::W4,
 };
 
-/// The numbers of the sessions beside those of their datagrams.
+/// The numbers of the sessions that aren't in their datagrams' shape.
 const NUMBERS: Numbers = Numbers {
     cap: 16,
     fanout: 1,
@@ -29,7 +29,7 @@ const NUMBERS: Numbers = Numbers {
     params: PARAMS,
 };
 
-/// What the broadcaster and two peers hold.
+/// The secrets of the broadcaster and two peers.
 const THREE: [Secrets; 3] = [
     Secrets {
         id: ID,
@@ -50,7 +50,7 @@ const THREE: [Secrets; 3] = [
 
 const STREAM_LEN: usize = 4000;
 
-/// The world of a session of these numbers, whose parties hold these secrets and whose stream is one byte so many times.
+/// The world of a session of these numbers. The parties hold these secrets, and the stream is one byte repeated.
 fn world_of(
     alloc: Global,
     shape: Shape,
@@ -95,10 +95,10 @@ fn tick_all(alloc: Global, world: &mut World) -> Result<(), AllocError>
     run_world(world, &moves)
 }
 
-/// More datagrams than are sent at a tick and for what it sends.
+/// More datagrams than a tick and the answers to its datagrams send.
 const MANY: u64 = 1000;
 
-/// Delivers each datagram of the pool from a number on, and answers how many the pool has then.
+/// Delivers each datagram of the pool from a number on, and returns how many the pool has afterwards.
 fn deliver_all(alloc: Global, world: &mut World, from: u64) -> Result<u64, AllocError>
     requires { IsReady world.old }
     ensures { OnOk result (IsReady world.new) }
@@ -115,7 +115,7 @@ fn deliver_all(alloc: Global, world: &mut World, from: u64) -> Result<u64, Alloc
     Ok(next)
 }
 
-/// So many ticks of a broadcaster and two peers, with each sent datagram delivered. Answers how many were sent.
+/// Runs `ticks` ticks of a broadcaster and two peers, with each sent datagram delivered. Returns how many were sent.
 fn play(alloc: Global, world: &mut World, ticks: u32) -> Result<u64, AllocError>
     requires { IsReady world.old }
     ensures { OnOk result (IsReady world.new) }
@@ -128,7 +128,8 @@ fn play(alloc: Global, world: &mut World, ticks: u32) -> Result<u64, AllocError>
     Ok(sent)
 }
 
-/// Moves that change nothing, where the pool has so many datagrams: past the pool, of no party, and of bytes that aren't a datagram.
+/// Makes moves that change nothing if the pool has `sent` datagrams: deliveries past the pool, ticks of no party, and bytes that aren't a
+/// datagram.
 fn move_in_vain(alloc: Global, world: &mut World, sent: u64) -> Result<(), AllocError>
     requires { IsReady world.old }
     ensures { OnOk result (IsReady world.new) }

@@ -1,4 +1,4 @@
--- What admits a datagram, and what refuses it.
+-- When a datagram is admitted, and when it is refused.
 pub mod Tests
 pub mod Rows
 pub mod Namesakes

@@ -1,4 +1,4 @@
--- What is given out, and told.
+-- What a peer gives out, and the totals that it reports.
 pub mod Contents
 pub mod Due
 pub mod Next

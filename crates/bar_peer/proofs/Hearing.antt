@@ -1,4 +1,4 @@
--- What is known, and what a memory holds, after a datagram was heard.
+-- The knowledge, and the memory, after a datagram was heard.
 pub mod Exchanges
 pub mod FromBroadcaster
 pub mod Keys

@@ -1,4 +1,4 @@
--- What orders do, one after the other.
+-- The effects of orders, one after the other.
 pub mod CarryingOut
 pub mod Sendings
 pub mod Growth

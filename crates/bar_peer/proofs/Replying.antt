@@ -1,4 +1,4 @@
--- What a datagram is answered with.
+-- How a datagram is answered.
 pub mod NoExchange
 pub mod Stale
 pub mod PushReply

@@ -1,4 +1,4 @@
--- What an input leaves.
+-- The outcome of an input.
 pub mod Guards
 pub mod Ignored
 pub mod Datagrams

@@ -1,8 +1,8 @@
--- A peer as a core: the rules of a member over its log, and what is seen of it.
+-- A peer as a core: the rules of a member over its log, and the public view of it.
 use Rattle.std.specs.Prelude.{◌≡◌, ℕ, List, [], length, map, option_map}
-use Rattle.bar_core.specs.Face.{Face}
+use Rattle.bar_core.specs.Code.Face.{Face}
 use Rattle.bar_core.specs.Rules.{Rules, Send}
-use Rattle.bar_core.specs.Orders.{left_in}
+use Rattle.bar_core.specs.Code.Orders.{left_in}
 use Rattle.bar_wire.specs.Datagram.{Datagram}
 use Rattle.bar_wire.specs.Evidence.{evidence_bytes}
 use Rattle.bar_session.specs.Time.{last_tick}
@@ -12,9 +12,9 @@ use Rattle.bar_rules.specs.Peer.Run.{log_after, step}
 use Rattle.bar_rules.specs.Values.{datagram_bytes}
 use Rattle.bar_peer.specs.declared.memory.Memory.{Memory}
 use Rattle.bar_peer.specs.declared.playing.Playing.{Playing}
-use Rattle.bar_peer.specs.Memory.{member_of}
-use Rattle.bar_peer.specs.Orders.{Orders}
-use Rattle.bar_peer.specs.StandsFor.{Inputs, AreLeft, contents_left}
+use Rattle.bar_peer.specs.Code.Memory.{member_of}
+use Rattle.bar_peer.specs.Code.Orders.{Orders}
+use Rattle.bar_peer.specs.Code.StandsFor.{Inputs, AreLeft, contents_left}
 
 abbrev pub peer_rules : Member → Rules
 peer_rules me =
@@ -29,7 +29,7 @@ peer_rules me =
       peers = me.session.shape.peers;
     }
 
--- what is seen of a peer with these orders and contents to be given out
+-- the public view of a peer with these orders and contents to be given out
 abbrev pub face_of : Memory → Orders → Playing → Face
 face_of m o playing =
     record { rules = peer_rules (member_of m.who); ticks = m.ticks; plays = contents_left m.store playing; left = length (left_in o) }

@@ -1,13 +1,13 @@
 //! Which datagrams a peer admits.
 ghost use Rattle.std.specs.Prelude.{◌≡◌, ◌+◌, ◌≤◌, ◌&&◌, ℕ, List, true, if◌then◌else◌};
-ghost use Rattle.bar_seeds.specs.Checkpoints.{kept_round};
+ghost use Rattle.bar_seeds.specs.Code.Checkpoints.{kept_round};
 ghost use Rattle.bar_session.specs.Points.{AreSeeds};
 ghost use Rattle.bar_wire.specs.Bodies.{choice_round};
-ghost use Rattle.bar_seal.specs.Memo.{has_pair, with_pair};
+ghost use Rattle.bar_seal.specs.Code.Memo.{has_pair, with_pair};
 ghost use Rattle.bar_wire.specs.Datagram.{Block, is_signed};
-ghost use Rattle.bar_peer.specs.Checking.{Checks, FollowsSeed, IsGuardOf, Remembers, shown_by};
+ghost use Rattle.bar_peer.specs.Code.Checking.{Checks, FollowsSeed, IsGuardOf, Remembers, shown_by};
 ghost use Rattle.bar_wire.specs.Bodies.{is_peer_kind};
-ghost use Rattle.bar_wire.specs.Views.{datagram, plain, IsView};
+ghost use Rattle.bar_wire.specs.Code.Views.{datagram, plain, IsView};
 ghost use Rattle.bar_session.specs.Time.{round_after};
 ghost use Rattle.bar_rules.specs.Member.{is_alive};
 ghost use Rattle.bar_rules.specs.Peer.Admission.{is_admitted, is_for, is_row_met, has_valid_signature};
@@ -15,11 +15,11 @@ ghost use Rattle.bar_rules.specs.Peer.Evidence.{is_tried};
 ghost use Rattle.bar_rules.specs.Peer.Knowledge.{Knowledge};
 ghost use Rattle.bar_rules.specs.Verifiers.{IsVerifierOf};
 ghost use Rattle.bar_laws.specs.Soundness.{IsSound};
-ghost use Rattle.bar_balanced.specs.Balanced.{AreSpelled};
-ghost use Rattle.bar_peer.specs.Arrivals.{IsReadBy, datagram_by, checked_by};
-ghost use Rattle.bar_peer.specs.Memory.{member_of, IsMemoryOf};
-ghost use Rattle.bar_peer.specs.Repeats.{is_of_exchange};
-ghost use Rattle.bar_peer.specs.Trying.{may_admit, may_show};
+ghost use Rattle.bar_balanced.specs.Code.Balanced.{AreSpelled};
+ghost use Rattle.bar_peer.specs.Code.Arrivals.{IsReadBy, datagram_by, checked_by};
+ghost use Rattle.bar_peer.specs.Code.Memory.{member_of, IsMemoryOf};
+ghost use Rattle.bar_peer.specs.Code.Repeats.{is_of_exchange};
+ghost use Rattle.bar_peer.specs.Code.Trying.{may_admit, may_show};
 
 use crate::arrival::Arrival;
 use crate::guard::Guard;
@@ -36,7 +36,7 @@ use bar_wire::{Body, EVERYONE, View, is_peer_kind};
 use std::sync::ledger::Ledger as StepLedger;
 
 impl Memory {
-    /// Whether a datagram is for this peer.
+    /// Whether a datagram is addressed to this peer.
     fn is_receiver(&self, view: &View<'_>) -> bool
         ensures { result ≡ is_for (member_of self.now.who) (datagram self.now.who.session.shape view.now).message }
     {
@@ -46,14 +46,14 @@ impl Memory {
         }
     }
 
-    /// Whether an update of a round is alive.
+    /// Whether the updates of a round are alive.
     fn is_alive(&self, round: u32) -> bool
         ensures { result ≡ is_alive self.now.who.session round (round_after self.now.ticks) }
     {
         u64::from(self.round()) < u64::from(round) + u64::from(self.who.session.shape().life)
     }
 
-    /// The row of a BLOCK. One of an update that is held isn't hashed.
+    /// Whether a BLOCK meets the row of its kind. If the update is held, its block isn't hashed.
     fn is_new_block(&self, id: UpdateId, block: &[u8; BLOCK_SIZE]) -> bool
         ensures { (k : Knowledge) (from to : ℕ) → IsMemoryOf (member_of self.now.who) k self.now
             → result ≡ is_row_met (member_of self.now.who) k from to (Block id block.now) }
@@ -64,7 +64,7 @@ impl Memory {
         self.store.cause(id, block, self.round()) == Added::New
     }
 
-    /// The row of a datagram's kind. It counts the steps along the seeds.
+    /// Whether a datagram meets the row of its kind. It counts the steps along the seeds.
     #[tactic(auto, using(crate::proofs::Stepping::Guards::follows_none))]
     fn meets_row<L: StepLedger>(
         &self,
@@ -92,7 +92,7 @@ impl Memory {
         }
     }
 
-    /// The row of a datagram of an exchange.
+    /// Whether a datagram of an exchange meets the row of its kind.
     #[tactic(auto, using(crate::proofs::Stepping::Guards::follows_none))]
     fn meets_row_of_exchange<L: StepLedger>(
         &self,
@@ -134,8 +134,8 @@ impl Memory {
         }
     }
 
-    /// Whether the signature is accepted under the sender's key, where the kind bears one. It counts each hash, and none where the datagram
-    /// is remembered.
+    /// Whether the signature is accepted under the sender's key; true if the kind isn't signed. It counts each hash, and none if the
+    /// datagram is remembered.
     fn is_valid<V: Verifier, L: StepLedger>(
         &self,
         checker: &mut Checker<V>,
@@ -163,8 +163,8 @@ impl Memory {
         checker.check(session.key(view.from), arrival.bytes, view, steps)
     }
 
-    /// Whether a datagram is admitted, if its signature is accepted. Where one of its name was admitted no more of it is looked at.
-    /// It counts the steps along the seeds.
+    /// Whether a datagram is admitted, if its signature is accepted. If a datagram of the same name was admitted before, no more of this
+    /// one is examined. It counts the steps along the seeds.
     #[tactic(auto, using(crate::proofs::Stepping::Guards::follows_none))]
     pub fn may_admit<L: StepLedger>(
         &self,
@@ -191,8 +191,9 @@ impl Memory {
         self.meets_row(arrival, points, steps)
     }
 
-    /// Whether evidence is looked for at a datagram, if its signature is accepted: it is of a kind that peers sign, to this peer, of a round
-    /// that may still be asked about, and its sender isn't announced evicted and has no evidence kept against it.
+    /// Whether a datagram is searched for evidence, if its signature is accepted. It must be of a kind that peers sign, addressed to this
+    /// peer, and of a round that may still be asked about. Its sender must not be announced evicted, and no evidence against it may be
+    /// kept.
     pub fn may_show(&self, arrival: &Arrival<'_>) -> bool
         ensures exact { (k : Knowledge) → IsMemoryOf (member_of self.now.who) k self.now
             → result ≡ may_show (member_of self.now.who) k (datagram_by self.now.who arrival.now) }
@@ -218,8 +219,8 @@ impl Memory {
         }
     }
 
-    /// Whether a datagram is admitted, and whether evidence is looked for at it. At most one signature is verified, and none where neither
-    /// depends on it. It counts each hash.
+    /// Whether a datagram is admitted, and whether it is searched for evidence. At most one signature is verified, and none if neither
+    /// result depends on it. It counts each hash.
     pub fn weigh<V: Verifier, L: StepLedger>(
         &self,
         guard: &mut Guard<V>,

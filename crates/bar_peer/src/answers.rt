@@ -1,18 +1,18 @@
-//! What a peer answers to a datagram.
+//! The replies of a peer to a datagram.
 ghost use Rattle.std.specs.Prelude.{◌≡◌, true};
 ghost use Rattle.bar_rules.specs.Peer.Knowledge.{Knowledge};
 ghost use Rattle.bar_rules.specs.Peer.Replies.{reply_orders};
-ghost use Rattle.bar_exchange.specs.Says.{orders_of_reply, AreFitting};
-ghost use Rattle.bar_peer.specs.Arrivals.{datagram_by};
-ghost use Rattle.bar_peer.specs.Memory.{member_of, IsMemoryOf};
-ghost use Rattle.bar_peer.specs.Repeats.{IsInTime};
+ghost use Rattle.bar_exchange.specs.Code.Says.{orders_of_reply, AreFitting};
+ghost use Rattle.bar_peer.specs.Code.Arrivals.{datagram_by};
+ghost use Rattle.bar_peer.specs.Code.Memory.{member_of, IsMemoryOf};
+ghost use Rattle.bar_peer.specs.Code.Repeats.{IsInTime};
 
 use crate::arrival::Arrival;
 use crate::memory::Memory;
 use bar_exchange::Says;
 use bar_window::XKind;
 
-/// What is said for a datagram that is admitted now or comes again.
+/// The replies to a datagram that is admitted now or is a repeat.
 pub fn says_to(memory: &Memory, arrival: &Arrival<'_>, is_new: bool) -> Says
     ensures fitting { AreFitting result }
     ensures orders { (k : Knowledge) → IsMemoryOf (member_of memory.now.who) k memory.now

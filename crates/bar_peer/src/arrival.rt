@@ -1,8 +1,8 @@
-ghost use Rattle.bar_exchange.specs.Placing.{StandsAt};
+ghost use Rattle.bar_exchange.specs.Code.Placing.{StandsAt};
 
 use bar_wire::{Place, View};
 
-/// A datagram that came and is read: its bytes, what they say, and where it stands, if it is of an exchange.
+/// A datagram that was received and decoded: its bytes, its view, and its exchange and side if it belongs to an exchange.
 #[derive(Clone, Copy, Debug)]
 pub struct Arrival<'a> {
     pub bytes: &'a [u8],

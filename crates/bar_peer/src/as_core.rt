@@ -1,10 +1,10 @@
-//! A peer as a core.
+//! A peer as an implementation of `Core`.
 ghost use Rattle.std.specs.Prelude.{◌≡◌, ◌<◌, ◌++◌, ◌∷◌, []};
-ghost use Rattle.bar_core.specs.Orders.{left_in};
+ghost use Rattle.bar_core.specs.Code.Orders.{left_in};
 ghost use Rattle.bar_wire.specs.Inputs.{plain_input};
 ghost use Rattle.bar_rules.specs.Peer.Run.{log_after, step};
-ghost use Rattle.bar_peer.specs.Memory.{member_of};
-ghost use Rattle.bar_peer.specs.StandsFor.{Inputs, StandsFor, AreLeft, contents_left};
+ghost use Rattle.bar_peer.specs.Code.Memory.{member_of};
+ghost use Rattle.bar_peer.specs.Code.StandsFor.{Inputs, StandsFor, AreLeft, contents_left};
 
 use crate::peer::Peer;
 use bar_bytes::{Rooms, Steps, put};
@@ -15,7 +15,7 @@ use bar_wire::{Input, Shape};
 use std::marker::Brand;
 use std::sync::ledger::{Blank, Ledger};
 
-// Takes an input, with a count of steps that nobody reads.
+// Takes an input and discards the count of steps.
 fn take_uncounted<S: Scheme, L: Ledger>(peer: &mut Peer<S>, input: Input<'_>, blank: Blank)
     requires name { blank.name ≡ L.name }
     requires parts { blank.parts ≡ L.parts }
@@ -40,7 +40,7 @@ fn take_uncounted<S: Scheme, L: Ledger>(peer: &mut Peer<S>, input: Input<'_>, bl
 impl<S: Scheme> Core for Peer<S> {
     ghost use Rattle.std.proofs.Common.{sym, ◌∙◌};
     ghost use Rattle.bar_peer.specs.Core.{Owes, face_of};
-    ghost use Rattle.bar_peer.specs.Time.{last_tick-small, log-time};
+    ghost use Rattle.bar_peer.specs.Code.Time.{last_tick-small, log-time};
 
     ghost stands = { λ p inputs. StandsFor p.memory inputs };
 

@@ -7,19 +7,19 @@ ghost use Rattle.bar_terms.specs.Table.{digests_of};
 ghost use Rattle.bar_terms.specs.Terms.{can_promise};
 ghost use Rattle.bar_wire.specs.Datagram.{Briefcase, Case, kind_of};
 ghost use Rattle.bar_wire.specs.Grammar.{HasForm};
-ghost use Rattle.bar_wire.specs.Views.{datagram, plain, AreWindows};
+ghost use Rattle.bar_wire.specs.Code.Views.{datagram, plain, AreWindows};
 ghost use Rattle.bar_wire.specs.declared.kind.Kind.TheVariants.{Key};
 ghost use Rattle.bar_rules.specs.Values.{counts_ok};
 ghost use Rattle.bar_rules.specs.Peer.Agreement.{IsRecent};
 ghost use Rattle.bar_rules.specs.Peer.Knowledge.{Knowledge, with_heard};
 ghost use Rattle.bar_laws.specs.Soundness.{IsSound};
-ghost use Rattle.bar_store.specs.Held.{block_in, HasSame};
-ghost use Rattle.bar_store.specs.Holds.{Holds};
-ghost use Rattle.bar_balanced.specs.Balanced.{AreSpelled};
-ghost use Rattle.bar_exchange.specs.Keeping.{IsAdmittedNow};
-ghost use Rattle.bar_peer.specs.Arrivals.{IsReadBy, datagram_by};
-ghost use Rattle.bar_peer.specs.Memory.{member_of, HasOtherStore, IsMemoryOf};
-ghost use Rattle.bar_peer.specs.Opening.{block_in_item, block_in_items, items_in, IsNear, AreGiven};
+ghost use Rattle.bar_store.specs.Code.Held.{block_in, HasSame};
+ghost use Rattle.bar_store.specs.Code.Holds.{Holds};
+ghost use Rattle.bar_balanced.specs.Code.Balanced.{AreSpelled};
+ghost use Rattle.bar_exchange.specs.Code.Keeping.{IsAdmittedNow};
+ghost use Rattle.bar_peer.specs.Code.Arrivals.{IsReadBy, datagram_by};
+ghost use Rattle.bar_peer.specs.Code.Memory.{member_of, HasOtherStore, IsMemoryOf};
+ghost use Rattle.bar_peer.specs.Code.Opening.{block_in_item, block_in_items, items_in, IsNear, AreGiven};
 
 use crate::arrival::Arrival;
 use crate::memory::Memory;
@@ -31,7 +31,7 @@ use bar_terms::{Item, Promise, can_promise, junk_count, promise, update_count};
 use bar_window::{BLOCK_SIZE, Exchange, MOST_ITEMS};
 use bar_wire::{Body, Kind, Place, View, decode};
 
-/// Holds the block of an item, where it is that of an update of the next round at most that is alive.
+/// Holds the block of an item, if the item is an update that is alive, of the next round at most, and the block has its digest.
 fn hold_item(store: &mut Store, now: u32, item: &Item, block: &[u8; BLOCK_SIZE])
     requires now { now ≡ store.old.round }
     ensures held { (u : UpdateId) → block_in store.new u ≡ option_or (block_in store.old u)
@@ -45,7 +45,7 @@ fn hold_item(store: &mut Store, now: u32, item: &Item, block: &[u8; BLOCK_SIZE])
     }
 }
 
-/// Holds the blocks of items, one after another.
+/// Holds the blocks of items, in order.
 fn hold_all(store: &mut Store, now: u32, items: &[Item], blocks: &[[u8; BLOCK_SIZE]])
     requires now { now ≡ store.old.round }
     requires few { length items.now ≤ length blocks.now }
@@ -59,7 +59,7 @@ fn hold_all(store: &mut Store, now: u32, items: &[Item], blocks: &[[u8; BLOCK_SI
 }
 
 impl Memory {
-    /// The datagram of a kind that was heard from a side of an exchange.
+    /// The datagram of a kind that was admitted from a side of an exchange.
     fn heard_view(&self, kind: Kind, place: Place) -> Option<View<'_>>
         ensures told { (k : Knowledge) → IsMemoryOf (member_of self.now.who) k self.now → AreSpelled (member_of self.now.who) k
             → IsRecent (member_of self.now.who) k place.x.round
@@ -71,7 +71,8 @@ impl Memory {
         decode(bytes, &self.who.session.shape()).ok()
     }
 
-    /// What is promised in a briefcase that a key opens, where all in it is as promised: then the blocks of its updates stand in `out`.
+    /// The promise of a briefcase that a key opens, or `None` unless every item in it is as promised. If it is `Some`, `out` contains the
+    /// blocks of the promised updates.
     fn unseal(
         &self,
         x: Exchange,
@@ -124,7 +125,7 @@ impl Memory {
         }
     }
 
-    /// Opens the briefcase of a KEY, and where all in it is as promised holds the blocks of its updates that are alive and aren't held.
+    /// Opens the briefcase of a KEY. If every item in it is as promised, holds the blocks of its updates that are alive and not held yet.
     pub fn open(&mut self, arrival: &Arrival<'_>)
         requires view { IsReadBy self.old.who arrival.now }
         ensures learns { (k : Knowledge) → IsMemoryOf (member_of self.old.who) k self.old → IsSound (member_of self.old.who) k

@@ -1,4 +1,4 @@
-//! The CASEs that were sent since the memory changed last.
+//! The CASEs that were sent since the memory last changed.
 ghost use Rattle.std.specs.Prelude.{◌≡◌, length};
 
 use bar_bytes::Rooms;
@@ -6,16 +6,16 @@ use bar_window::{Exchange, LARGEST_CIPHER};
 use bar_wire::Shape;
 use std::alloc::{AllocError, Global};
 
-/// How many rooms there are: one for each exchange of a peer in the rounds of which CASEs are sent, of which there are four at the most.
+/// The number of rooms: one for each exchange of a peer in the rounds whose CASEs are sent, which are at most four.
 const ROOMS: usize = 24;
 
-/// The most bytes of a CASE besides its cipher and its signature.
+/// The largest size of a CASE without its cipher and its signature, in bytes.
 const MOST_WORDS: usize = 1_050;
 
-/// Rooms for CASEs, each with the exchange of the one that it keeps. All memory is taken when they are made.
+/// Rooms for CASEs, each labelled with the exchange of its CASE. All memory is allocated when they are made.
 #[derive(Drop)]
 pub struct Cases {
-    /// The exchange whose CASE a room keeps, or `None` where what it keeps is given up.
+    /// The exchange whose CASE a room keeps, or `None` if the room's content was dropped.
     names: Vec<Option<Exchange>>,
     rooms: Rooms,
     ghost count: { length names.items ≡ length rooms.rooms.items },
@@ -24,7 +24,7 @@ pub struct Cases {
 impl Cases {
     ghost use Rattle.std.specs.Prelude.{◌≡◌, ℕ, List, None, Some, IfOk, option_copied, true, false};
     ghost use Rattle.bar_window.specs.declared.exchange.Exchange.{Exchange};
-    ghost use Rattle.bar_peer.specs.Cases.{IsIn, IsInOrNew, KeepsNone};
+    ghost use Rattle.bar_peer.specs.Code.Cases.{IsIn, IsInOrNew, KeepsNone};
 
     /// Empty rooms for the CASEs of a session.
     pub fn make(alloc: Global, shape: &Shape) -> Result<Cases, AllocError>
@@ -36,7 +36,7 @@ impl Cases {
         Ok(Cases { names, rooms })
     }
 
-    /// The CASE of an exchange that a room keeps, of those by number.
+    /// The CASE of exchange `x` in room `number` modulo `ROOMS`, or `None` if that room keeps another one or none.
     pub fn get(&self, number: usize, x: Exchange) -> Option<&[u8]>
         ensures { (bytes : List ℕ) → option_copied result ≡ Some bytes → IsIn self.now x bytes }
     {
@@ -48,7 +48,7 @@ impl Cases {
         self.rooms.get(number)
     }
 
-    /// Keeps the CASE of an exchange in a room, of those by number.
+    /// Keeps the CASE of exchange `x` in room `number` modulo `ROOMS`, if it fits.
     pub fn keep(&mut self, number: usize, x: Exchange, bytes: &[u8])
         ensures { IsInOrNew x bytes.now self.old self.new }
     {
@@ -60,7 +60,7 @@ impl Cases {
         self.names[number] = Some(x);
     }
 
-    /// Gives up all that is kept.
+    /// Drops all CASEs.
     fn clear(&mut self)
         ensures { KeepsNone self.new }
     {
@@ -69,7 +69,7 @@ impl Cases {
         }
     }
 
-    /// Gives up all that is kept, unless it still holds.
+    /// Drops all CASEs unless `holds` is true.
     pub fn keep_while(&mut self, holds: bool)
         ensures kept { holds ≡ true → self.new ≡ self.old }
         ensures cleared { holds ≡ false → KeepsNone self.new }

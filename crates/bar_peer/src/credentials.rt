@@ -5,7 +5,8 @@ ghost use Rattle.bar_rules.specs.Members.{member_by};
 use bar_roster::Session;
 use bar_seeds::{Secrets, SeedChain};
 
-/// A peer of a session: the session, and the peer's secrets and seeds, from which the session's key and anchor of this peer come.
+/// A peer's session, secrets and seed chain. The session contains the peer's key and its seed chain's anchor, both derived from the
+/// secrets.
 #[derive(Drop)]
 pub struct Credentials {
     pub session: Session,

@@ -5,12 +5,12 @@ ghost use Rattle.bar_wire.specs.Places.{pairs};
 
 use std::alloc::{AllocError, Global};
 
-/// The rounds whose EVICT was admitted, and the parties that admitted EVICTs name. All memory is taken when it is made.
+/// The rounds whose EVICT was admitted, and the parties that admitted EVICTs name. All memory is allocated when it is made.
 #[derive(Drop)]
 pub struct Evictions {
-    /// A mark for each round, from round 0 on.
+    /// A mark for each round, starting with round 0.
     rounds: Vec<bool>,
-    /// A mark for each party, from party 0 on.
+    /// A mark for each party, starting with party 0.
     parties: Vec<bool>,
 }
 
@@ -18,7 +18,7 @@ impl Evictions {
     ghost use Rattle.std.specs.Prelude.{◌≡◌, ℕ, ◌+◌, ◌*◌, ◌<◌, ◌||◌, ◌==◌, ◌&&◌, false, nat_lt, length, IfOk};
     ghost use Rattle.std.specs.List.{list_any};
     ghost use Rattle.bar_wire.specs.Places.{pairs};
-    ghost use Rattle.bar_peer.specs.Evictions.{was_heard, is_named};
+    ghost use Rattle.bar_peer.specs.Code.Evictions.{was_heard, is_named};
 
     /// No evictions, and room for those of rounds up to `rounds` and of parties up to `peers`.
     pub fn make(alloc: Global, rounds: u32, peers: u16) -> Result<Evictions, AllocError>
@@ -52,7 +52,7 @@ impl Evictions {
         }
     }
 
-    /// Marks a round, where there is a mark for it.
+    /// Marks a round, if there is a mark for it.
     fn hear(&mut self, round: u32)
         ensures heard { (r : ℕ) → was_heard self.new r ≡
             (was_heard self.old r || (r == round) && nat_lt round (length self.old.rounds.items)) }
@@ -64,7 +64,7 @@ impl Evictions {
         }
     }
 
-    /// Marks a party, where there is a mark for it.
+    /// Marks a party, if there is a mark for it.
     fn name(&mut self, party: u16)
         ensures named { (p : ℕ) → is_named self.new p ≡
             (is_named self.old p || (party == p) && nat_lt party (length self.old.parties.items)) }
@@ -76,7 +76,7 @@ impl Evictions {
         }
     }
 
-    /// Marks the round of an EVICT and the parties that it names, of two bytes each, where there are marks for them.
+    /// Marks the round of an EVICT and the parties that it names, of two bytes each, if there are marks for them.
     pub fn add(&mut self, round: u32, parties: &[u8])
         ensures rounds { (r : ℕ) → was_heard self.new r ≡
             (was_heard self.old r || (r == round) && nat_lt round (length self.old.rounds.items)) }

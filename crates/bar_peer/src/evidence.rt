@@ -1,12 +1,12 @@
 //! The evidence that a datagram completes.
 ghost use Rattle.std.specs.Prelude.{◌≡◌, ◌≤◌, None, Some, option_map, true};
 ghost use Rattle.bar_wire.specs.Evidence.{datagrams_of};
-ghost use Rattle.bar_wire.specs.Sides.{place_in};
+ghost use Rattle.bar_wire.specs.Code.Sides.{place_in};
 ghost use Rattle.bar_wire.specs.declared.kind.Kind.TheVariants as kinds;
 ghost use Rattle.bar_rules.specs.Peer.Evidence.{new_evidence, pair_with, pairs_elsewhere, pairs_in, pairs_of};
 ghost use Rattle.bar_rules.specs.Peer.Knowledge.{Knowledge, table_of};
-ghost use Rattle.bar_peer.specs.Checking.{ChecksSeed, shown_by};
-ghost use Rattle.bar_peer.specs.Searching.{GoesBy, MaySearch, pair_behind, searched, searcher};
+ghost use Rattle.bar_peer.specs.Code.Checking.{ChecksSeed, shown_by};
+ghost use Rattle.bar_peer.specs.Code.Searching.{GoesBy, MaySearch, pair_behind, searched, searcher};
 
 use crate::guard::Guard;
 use crate::search::Search;
@@ -21,7 +21,7 @@ use bar_wire::{EvidenceView, Kind, Place, decode, is_peer_kind, the_datagram_is_
 use std::sync::ledger::Ledger as StepLedger;
 
 impl<'a> Search<'a> {
-    /// The datagram of a kind that was heard at the place of this one, where the two show a fault of their sender.
+    /// The admitted datagram of kind `kind` at `place`, if it and the searched one prove a fault of their sender.
     fn pair_with<V: Verifier, L: StepLedger>(
         &self,
         kind: Kind,
@@ -56,8 +56,8 @@ impl<'a> Search<'a> {
         Some(heard)
     }
 
-    /// Whether this is the KEY that was heard at its place, byte for byte, and its signature names another leaf than that of the CASE that
-    /// was heard there. The CASE isn't opened again by it: evidence is kept where it showed some.
+    /// Whether the searched datagram is the KEY that was admitted at its place, byte for byte, and its signature names another leaf than
+    /// that of the CASE admitted there. If so, the CASE isn't opened again: any evidence that this showed is kept already.
     fn is_key_again<V: Verifier>(&self, place: Place, guard: &Guard<V>) -> bool
         requires place { self.now.arrival.now.place ≡ Some place }
         requires search { MaySearch self.now guard.now }
@@ -82,7 +82,7 @@ impl<'a> Search<'a> {
         !names(verifier, Some(case), verifier.leaf_in(sig))
     }
 
-    /// The CASE that was heard at the place of this datagram, where the two show a fault of their sender.
+    /// The admitted CASE at `place`, if it and the searched datagram prove a fault of their sender.
     fn case_here<V: Verifier, L: StepLedger>(
         &self,
         place: Place,
@@ -102,7 +102,7 @@ impl<'a> Search<'a> {
         self.pair_with(Kind::Case, place, guard, steps)
     }
 
-    /// The first datagram that was heard at the place of this one with which it shows a fault.
+    /// The first admitted datagram at `place` that proves a fault together with the searched one.
     fn earlier_here<V: Verifier, L: StepLedger>(
         &self,
         place: Place,
@@ -126,7 +126,7 @@ impl<'a> Search<'a> {
         self.pair_with(Kind::Key, place, guard, steps)
     }
 
-    /// The first datagram that was heard of another exchange with the sender and has a signature that names the leaf of this one's.
+    /// The first admitted datagram of another exchange with the sender whose signature names the same leaf as the searched one's.
     fn earlier_elsewhere<V: Verifier>(&self, place: Place, guard: &Guard<V>) -> Option<&'a [u8]>
         requires place { self.now.arrival.now.place ≡ Some place }
         requires search { MaySearch self.now guard.now }
@@ -141,7 +141,7 @@ impl<'a> Search<'a> {
         naming_elsewhere(verifier, self.ledger, place.x, view.from, leaf)
     }
 
-    /// The first datagram behind which this one shows a fault of their sender: of its own exchange, or of another one.
+    /// The first admitted datagram that proves a fault together with the searched one: of the same exchange, else of another one.
     fn earlier<V: Verifier, L: StepLedger>(
         &self,
         place: Place,
@@ -161,8 +161,9 @@ impl<'a> Search<'a> {
         }
     }
 
-    /// The evidence that a datagram with an accepted signature completes: itself, or it behind the first that was heard of its sender with
-    /// which it shows a fault, of its own exchange before the others. It counts the steps along the seeds.
+    /// The evidence that a datagram with an accepted signature completes: the datagram alone, or the first admitted datagram of its sender
+    /// that proves a fault with it, then itself. Datagrams of the same exchange are tried before others. It counts the steps along the
+    /// seeds.
     pub fn find<V: Verifier, L: StepLedger>(
         &self,
         guard: &mut Guard<V>,

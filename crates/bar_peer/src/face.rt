@@ -1,8 +1,8 @@
-//! What a peer tells of itself.
+//! The public view of a peer: its session, time, manifests, evidence and totals.
 ghost use Rattle.std.specs.Prelude.{◌≡◌, ◌↔◌, ◌+◌, ℕ, [], true, length, nat_le, IsTrue, option_copied, option_map};
-ghost use Rattle.bar_bytes.specs.Rooms.{kept_in};
-ghost use Rattle.bar_terms.specs.Windows.{AreAligned};
-ghost use Rattle.bar_ledger.specs.Totals.{AreSound};
+ghost use Rattle.bar_bytes.specs.Code.Rooms.{kept_in};
+ghost use Rattle.bar_terms.specs.Code.Windows.{AreAligned};
+ghost use Rattle.bar_ledger.specs.Code.Totals.{AreSound};
 ghost use Rattle.bar_wire.specs.Evidence.{evidence_bytes};
 ghost use Rattle.bar_session.specs.Sessions.{IsSession};
 ghost use Rattle.bar_session.specs.Time.{last_tick};
@@ -11,9 +11,9 @@ ghost use Rattle.bar_rules.specs.Peer.Knowledge.{Knowledge, known};
 ghost use Rattle.bar_rules.specs.Peer.Run.{log_after};
 ghost use Rattle.bar_laws.specs.Rewriting.{IsRewritten};
 ghost use Rattle.bar_laws.specs.Soundness.{IsSound};
-ghost use Rattle.bar_peer.specs.Memory.{member_of, IsMemoryOf};
-ghost use Rattle.bar_peer.specs.StandsFor.{Inputs, StandsFor};
-ghost use Rattle.bar_peer.specs.Telling.{AreTotals, AreTotalsAfter};
+ghost use Rattle.bar_peer.specs.Code.Memory.{member_of, IsMemoryOf};
+ghost use Rattle.bar_peer.specs.Code.StandsFor.{Inputs, StandsFor};
+ghost use Rattle.bar_peer.specs.Code.Telling.{AreTotals, AreTotalsAfter};
 
 use crate::memory::Memory;
 use crate::peer::Peer;
@@ -29,7 +29,7 @@ use bar_terms::can_promise;
 use bar_window::{Exchange, Terms};
 use bar_wire::Shape;
 
-/// Whether the windows of terms are of the same rounds.
+/// Whether the windows of terms cover the same rounds.
 fn have_same_rounds(terms: &Terms) -> bool
     ensures { IsTrue result ↔ AreAligned terms.now }
 {
@@ -45,7 +45,7 @@ fn have_same_rounds(terms: &Terms) -> bool
     }
 }
 
-/// Whether each side can promise something by terms.
+/// Whether the windows of terms cover the same rounds, and each side can promise something by them.
 fn are_sound(terms: &Terms, cap: u8) -> bool
     ensures sound { result ≡ true → AreSound cap terms.now }
     ensures complete { AreSound cap terms.now → result ≡ true }
@@ -54,7 +54,7 @@ fn are_sound(terms: &Terms, cap: u8) -> bool
 }
 
 impl Memory {
-    /// What was promised, received and opened in an exchange, and zeros where it isn't kept.
+    /// The totals of what was promised, received and opened in an exchange; zeros if the exchange isn't kept.
     fn totals(&self, x: Exchange) -> Totals
         ensures { (k : Knowledge) → IsMemoryOf (member_of self.now.who) k self.now → IsSound (member_of self.now.who) k
             → IsRewritten (member_of self.now.who) k → AreTotals (member_of self.now.who) k x result }
@@ -76,7 +76,7 @@ impl Memory {
 }
 
 impl<S: Scheme> Peer<S> {
-    /// The numbers of the session's datagrams.
+    /// The sizes and limits of the session's datagrams.
     pub fn shape(&self) -> Shape
         ensures value { result ≡ self.now.memory.who.session.shape }
         ensures session { IsSession self.now.memory.who.session }
@@ -100,7 +100,7 @@ impl<S: Scheme> Peer<S> {
         self.memory.is_over()
     }
 
-    /// The datagram of the manifest of a round, or `None` where none was admitted.
+    /// The datagram of the manifest of a round, or `None` if none was admitted.
     pub fn manifest(&self, round: u32) -> Option<&[u8]>
         ensures { (inputs : Inputs) → StandsFor self.now.memory inputs → option_copied result
             ≡ option_map (datagram_bytes self.now.memory.who.session)
@@ -119,7 +119,7 @@ impl<S: Scheme> Peer<S> {
         &self.memory.manifests
     }
 
-    /// The evidence that is kept, by party, as the body of an EVIDENCE has it.
+    /// The evidence that is kept, by party, encoded as the body of an EVIDENCE.
     pub fn kept_evidence(&self) -> &Rooms
         ensures kept { (inputs : Inputs) → StandsFor self.now.memory inputs → (party : ℕ) → kept_in result.now party
             ≡ option_map evidence_bytes
@@ -129,7 +129,7 @@ impl<S: Scheme> Peer<S> {
         &self.memory.evidence
     }
 
-    /// The evidence that is kept against a party, as the body of an EVIDENCE has it, or `None` where none is kept.
+    /// The evidence that is kept against a party, encoded as the body of an EVIDENCE, or `None` if none is kept.
     pub fn evidence(&self, party: u16) -> Option<&[u8]>
         ensures { (inputs : Inputs) → StandsFor self.now.memory inputs → option_copied result
             ≡ option_map evidence_bytes
@@ -138,8 +138,8 @@ impl<S: Scheme> Peer<S> {
         self.memory.evidence.get(usize::from(party))
     }
 
-    /// How many items this peer promised in an exchange, was promised, and sent a key for. Once the exchange can't be asked about any more
-    /// it tells zeros.
+    /// How many items this peer promised in an exchange, was promised, and sent a key for. Zeros once the exchange can't be asked about any
+    /// more.
     pub fn totals(&self, x: Exchange) -> Totals
         ensures { (inputs : Inputs) → StandsFor self.now.memory inputs
             → AreTotalsAfter (member_of self.now.memory.who) inputs x result }

@@ -1,7 +1,7 @@
 use bar_seal::{Checker, Verifier};
 use bar_seeds::Checkpoints;
 
-/// What guards a peer: what verifies, with a memo of the datagrams that it accepted, and the last seed that was accepted of each peer.
+/// What a peer checks datagrams with: the verifier with a memo of accepted datagrams, and the last accepted seed of each peer.
 #[derive(Drop)]
 pub struct Guard<V: Verifier> {
     pub checker: Checker<V>,

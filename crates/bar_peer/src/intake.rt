@@ -1,10 +1,10 @@
-//! What a peer does at a datagram and at a tick.
+//! How a peer takes a datagram or a tick.
 ghost use Rattle.std.specs.Prelude.{◌≡◌, ◌≤◌, ◌<◌, [], ◌+◌, None, Some, true, false, is_some, length};
-ghost use Rattle.bar_peer.specs.Checking.{Checks, ChecksSeed, IsGuardOf, RemembersAdmitted, shown_by, shown_in};
+ghost use Rattle.bar_peer.specs.Code.Checking.{Checks, ChecksSeed, IsGuardOf, RemembersAdmitted, shown_by, shown_in};
 ghost use Rattle.bar_wire.specs.Inputs as event;
 ghost use Rattle.bar_wire.specs.Bodies.{is_peer_kind};
 ghost use Rattle.bar_wire.specs.Datagram.{Datagram};
-ghost use Rattle.bar_wire.specs.Views.{plain};
+ghost use Rattle.bar_wire.specs.Code.Views.{plain};
 ghost use Rattle.bar_session.specs.Time.{last_tick};
 ghost use Rattle.bar_rules.specs.Member.{Member};
 ghost use Rattle.bar_rules.specs.Peer.Admission.{is_admitted as admitted};
@@ -17,12 +17,12 @@ ghost use Rattle.bar_rules.specs.Peer.Run.{answered_to, take_datagram, with_evid
 ghost use Rattle.bar_rules.specs.Values.{datagram_of};
 ghost use Rattle.bar_laws.specs.Evidence.{CatchesBadKeys};
 ghost use Rattle.bar_laws.specs.Ignoring.{is_unread, tells_nothing};
-ghost use Rattle.bar_peer.specs.Ignoring.{IgnoresInput, LeavesMemory};
-ghost use Rattle.bar_peer.specs.Arrivals.{IsReadBy, datagram_by};
-ghost use Rattle.bar_peer.specs.Memory.{member_of, HasOtherEvidence, Represents, IsSameParty};
-ghost use Rattle.bar_peer.specs.Sending.{HasOutcome};
-ghost use Rattle.bar_peer.specs.Steps.{TakesTick, TakesDatagram};
-ghost use Rattle.bar_core.specs.Orders.{HasSameRoom};
+ghost use Rattle.bar_peer.specs.Code.Ignoring.{IgnoresInput, LeavesMemory};
+ghost use Rattle.bar_peer.specs.Code.Arrivals.{IsReadBy, datagram_by};
+ghost use Rattle.bar_peer.specs.Code.Memory.{member_of, HasOtherEvidence, Represents, IsSameParty};
+ghost use Rattle.bar_peer.specs.Code.Sending.{HasOutcome};
+ghost use Rattle.bar_peer.specs.Code.Steps.{TakesTick, TakesDatagram};
+ghost use Rattle.bar_core.specs.Code.Orders.{HasSameRoom};
 
 use crate::answers::says_to;
 use crate::arrival::Arrival;
@@ -41,7 +41,7 @@ use bar_seal::Verifier;
 use bar_wire::{bytes_spell_one, decode, place_of};
 use std::sync::ledger::Ledger as StepLedger;
 
-/// Takes a tick, and says what it asks for.
+/// Takes a tick, and queues the orders that it gives.
 pub fn take_tick(memory: &mut Memory, orders: &mut Orders<Order>)
     requires { memory.old.ticks < last_tick memory.old.who.session }
     ensures stands { TakesTick memory.old orders.old memory.new orders.new }
@@ -54,8 +54,8 @@ pub fn take_tick(memory: &mut Memory, orders: &mut Orders<Order>)
 }
 
 impl Memory {
-    /// Keeps the evidence that a datagram with an accepted signature completes, and answers whether there is some. It counts the steps along
-    /// the seeds.
+    /// Keeps the evidence that a datagram with an accepted signature completes, and returns whether there is some. It counts the steps
+    /// along the seeds.
     fn keep_found<V: Verifier, L: StepLedger>(
         &mut self,
         guard: &mut Guard<V>,
@@ -94,8 +94,7 @@ impl Memory {
     }
 }
 
-/// Keeps what a datagram tells where it is admitted, and answers it; a repeat is answered again. It answers whether the memory stayed as it
-/// was.
+/// If a datagram is admitted, records and answers it; if it is a repeat, answers it again. Returns true only if the memory is unchanged.
 fn answer(
     memory: &mut Memory,
     orders: &mut Orders<Order>,
@@ -134,8 +133,8 @@ fn answer(
     }
 }
 
-/// Looks for evidence at a datagram with an accepted signature and keeps it, then answers the datagram, and reports the evidence. It counts
-/// the steps along the seeds, and answers whether the memory stayed as it was.
+/// Searches a datagram with an accepted signature for evidence and keeps it, then answers the datagram and reports the evidence. It counts
+/// the steps along the seeds. Returns true only if the memory is unchanged.
 fn answer_tried<V: Verifier, L: StepLedger>(
     memory: &mut Memory,
     orders: &mut Orders<Order>,
@@ -179,8 +178,8 @@ fn answer_tried<V: Verifier, L: StepLedger>(
     }
 }
 
-/// Takes a datagram that is read: it looks for evidence and keeps it, then keeps what the datagram tells where it is admitted, answers it,
-/// and reports the evidence. At most one signature is verified. It counts each hash, and answers whether the memory stayed as it was.
+/// Takes a decoded datagram. It searches for evidence and keeps it; then it records the datagram if it is admitted, answers it, and reports
+/// the evidence. At most one signature is verified. It counts each hash. Returns true only if the memory is unchanged.
 fn take_arrival<V: Verifier, L: StepLedger>(
     memory: &mut Memory,
     orders: &mut Orders<Order>,
@@ -214,7 +213,8 @@ fn take_arrival<V: Verifier, L: StepLedger>(
     }
 }
 
-/// Takes a datagram, and answers whether the memory stayed as it was. One that isn't read changes nothing. It counts each hash.
+/// Takes the bytes of a datagram. Bytes that don't decode change nothing. It counts each hash. Returns true only if the memory is
+/// unchanged.
 #[tactic(auto, using(crate::proofs::Stepping::Guards::checks_none))]
 pub fn take_datagram<V: Verifier, L: StepLedger>(
     memory: &mut Memory,

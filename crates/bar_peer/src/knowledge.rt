@@ -1,16 +1,16 @@
-//! What a peer keeps of a datagram that it admits.
+//! How a peer records a datagram that it admits.
 ghost use Rattle.std.specs.Prelude.{◌≡◌, ◌∷◌};
 ghost use Rattle.bar_wire.specs.Datagram.{kind_of};
-ghost use Rattle.bar_wire.specs.Views.{plain};
+ghost use Rattle.bar_wire.specs.Code.Views.{plain};
 ghost use Rattle.bar_wire.specs.declared.kind.Kind.TheVariants.{Manifest, Block, Evict};
 ghost use Rattle.bar_rules.specs.Peer.Log.{Log, Heard};
 ghost use Rattle.bar_rules.specs.Peer.Knowledge.{Knowledge, with_heard};
 ghost use Rattle.bar_rules.specs.Peer.Rules.{IsObedient};
 ghost use Rattle.bar_laws.specs.Soundness.{IsSound};
-ghost use Rattle.bar_exchange.specs.Keeping.{IsAdmittedNow};
-ghost use Rattle.bar_peer.specs.Arrivals.{IsReadBy, datagram_by};
-ghost use Rattle.bar_peer.specs.Memory.{member_of, HasOtherLedger, IsMemoryOf, Represents, IsSameParty};
-ghost use Rattle.bar_peer.specs.Hearing.{RecallsHeard};
+ghost use Rattle.bar_exchange.specs.Code.Keeping.{IsAdmittedNow};
+ghost use Rattle.bar_peer.specs.Code.Arrivals.{IsReadBy, datagram_by};
+ghost use Rattle.bar_peer.specs.Code.Memory.{member_of, HasOtherLedger, IsMemoryOf, Represents, IsSameParty};
+ghost use Rattle.bar_peer.specs.Code.Hearing.{RecallsHeard};
 
 use crate::arrival::Arrival;
 use crate::memory::Memory;
@@ -98,7 +98,7 @@ impl Memory {
         }
     }
 
-    /// Keeps what a datagram tells that is admitted.
+    /// Records an admitted datagram.
     pub fn hear(&mut self, arrival: &Arrival<'_>)
         requires view { IsReadBy self.old.who arrival.now }
         ensures learns { (log : Log) → IsObedient (member_of self.old.who) (Heard (datagram_by self.old.who arrival.now) ∷ log)

@@ -11,18 +11,18 @@ use bar_roster::round_after;
 use bar_store::Store;
 use bar_window::Exchange;
 
-/// What a peer knows: of the stream, of its exchanges, of evictions and of evidence. All memory is taken when it is made.
+/// What a peer knows: the stream, its exchanges, evictions and evidence. All memory is allocated when it is made.
 #[derive(Drop)]
 pub struct Memory {
     pub who: Credentials,
     /// How many ticks were taken.
     pub ticks: u32,
     pub store: Store,
-    /// The datagram of each round's manifest, as it came.
+    /// The datagram of each round's manifest, as received.
     pub manifests: Rooms,
     pub ledger: Ledger,
     pub evictions: Evictions,
-    /// The evidence that is kept against each party, as the body of an EVIDENCE.
+    /// The evidence that is kept against each party, encoded as the body of an EVIDENCE.
     pub evidence: Rooms,
     ghost in_time: { ticks ≤ last_tick who.session },
     ghost table_rounds: { store.table.rounds ≡ who.session.shape.rounds },
@@ -40,9 +40,9 @@ pub struct Memory {
 impl Memory {
     ghost use Rattle.std.specs.Prelude.{◌≡◌};
     ghost use Rattle.bar_rules.specs.Peer.Exchanges.{partner_in};
-    ghost use Rattle.bar_peer.specs.Memory.{member_of};
+    ghost use Rattle.bar_peer.specs.Code.Memory.{member_of};
 
-    /// This round.
+    /// The current round.
     pub fn round(&self) -> u32
         ensures { result ≡ round_after self.now.ticks }
     {

@@ -1,11 +1,11 @@
-//! The peer of a party's key.
+//! A peer made from a party's key.
 ghost use Rattle.std.specs.Prelude.{◌≡◌, ℕ, [], None, false, IfOk};
-ghost use Rattle.bar_seeds.specs.Checkpoints.{kept_of};
+ghost use Rattle.bar_seeds.specs.Code.Checkpoints.{kept_of};
 ghost use Rattle.bar_hss.specs.Files.{IsPartyKeyOf};
 ghost use Rattle.bar_rules.specs.Members.{member_by};
-ghost use Rattle.bar_peer.specs.Memory.{member_of};
-ghost use Rattle.bar_core.specs.Orders.{left_in};
-ghost use Rattle.bar_peer.specs.StandsFor.{StandsFor, contents_left};
+ghost use Rattle.bar_peer.specs.Code.Memory.{member_of};
+ghost use Rattle.bar_core.specs.Code.Orders.{left_in};
+ghost use Rattle.bar_peer.specs.Code.StandsFor.{StandsFor, contents_left};
 
 use crate::peer::Peer;
 use bar_hss::{PartyKey, SessionScheme};
@@ -13,13 +13,14 @@ use bar_roster::Session;
 use bar_wire::{LEAVES_A_ROUND, Shape};
 use std::alloc::{AllocError, Global};
 
-/// How many leaves the rounds have that may still be asked about, of which there are two more than an update lives.
+/// The number of leaves of the rounds that may still be asked about: two more rounds than an update lives.
 fn leaves_in_use(shape: &Shape) -> u16 {
     LEAVES_A_ROUND as u16 * (u16::from(shape.life) + 2)
 }
 
 impl Peer<SessionScheme> {
-    /// The peer of a session that a key is of. It took no input yet. What it says again it doesn't sign anew.
+    /// The peer that a party's key belongs to, in its session, before any input. Its scheme remembers the signatures of recent leaves, so
+    /// that a message that is sent again isn't signed again.
     pub fn of_key(
         alloc: Global,
         session: Session,

@@ -1,23 +1,23 @@
-//! What a peer gives out.
+//! The datagrams that a peer gives out.
 ghost use Rattle.std.specs.Prelude.{◌≡◌, ◌<◌, ◌≤◌, ℕ, List, [], Some, IfSome, MatchOption, length, option_copied, take, unwrap_or};
 ghost use Rattle.bar_wire.specs.Datagram.{Datagram};
 ghost use Rattle.bar_wire.specs.Limits.{largest_datagram};
-ghost use Rattle.bar_ledger.specs.Lookups.{seat_of};
+ghost use Rattle.bar_ledger.specs.Code.Lookups.{seat_of};
 ghost use Rattle.bar_wire.specs.declared.kind.Kind.TheVariants as kinds;
 ghost use Rattle.bar_rules.specs.Values.{datagram_bytes, message_bytes};
 ghost use Rattle.bar_rules.specs.Peer.Agreement.{IsRecent};
 ghost use Rattle.bar_rules.specs.Peer.Knowledge.{Knowledge};
 ghost use Rattle.bar_rules.specs.Peer.Signing.{leaf_for};
 ghost use Rattle.bar_rules.specs.Peer.Writing.{body_now};
-ghost use Rattle.bar_exchange.specs.Writing.{CanWrite, IsWritten, LeavesRest, largest_message};
-ghost use Rattle.bar_peer.specs.Cases.{AreCasesNow};
-ghost use Rattle.bar_peer.specs.Giving.{IsDue, IsOrderDue, IsSignedFor, receiver_of};
+ghost use Rattle.bar_exchange.specs.Code.Writing.{CanWrite, IsWritten, LeavesRest, largest_message};
+ghost use Rattle.bar_peer.specs.Code.Cases.{AreCasesNow};
+ghost use Rattle.bar_peer.specs.Code.Giving.{IsDue, IsOrderDue, IsSignedFor, receiver_of};
 ghost use Rattle.bar_peer.specs.declared.order.Order.TheVariants as orders;
-ghost use Rattle.bar_rules.specs.Giving.{IsGiven};
-ghost use Rattle.bar_peer.specs.Memory.{member_of, IsMemoryOf};
-ghost use Rattle.bar_core.specs.Orders.{left_in};
-ghost use Rattle.bar_peer.specs.StandsFor.{Inputs, StandsFor, AreLeft};
-ghost use Rattle.bar_rules.specs.Giving.{GivesNext};
+ghost use Rattle.bar_rules.specs.Code.Giving.{IsGiven};
+ghost use Rattle.bar_peer.specs.Code.Memory.{member_of, IsMemoryOf};
+ghost use Rattle.bar_core.specs.Code.Orders.{left_in};
+ghost use Rattle.bar_peer.specs.Code.StandsFor.{Inputs, StandsFor, AreLeft};
+ghost use Rattle.bar_rules.specs.Code.Giving.{GivesNext};
 
 use crate::cases::Cases;
 use crate::memory::Memory;
@@ -35,7 +35,7 @@ use bar_seal::{Scheme, leaf_for};
 use bar_window::{Exchange, Role, XKind};
 use bar_wire::{BROADCASTER, Kind, SEATS_A_ROUND};
 
-/// The responder's seat in an exchange, and 0 where it has none.
+/// The responder's seat in an exchange, or 0 if it has none.
 fn seat_of(ledger: &Ledger, x: Exchange) -> u8
     ensures { result ≡ unwrap_or (seat_of ledger.now x) 0 }
 {
@@ -49,7 +49,7 @@ fn seat_of(ledger: &Ledger, x: Exchange) -> u8
 }
 
 impl Memory {
-    /// Writes the message of an order, all before its signature, to the front of a buffer, and answers its length.
+    /// Writes the message of an order, without its signature, to the start of a buffer, and returns its length.
     fn write(&self, say: Say, buf: &mut [u8]) -> Option<usize>
         requires room { largest_datagram ≤ length buf.old }
         ensures written { (k : Knowledge) → IsMemoryOf (member_of self.now.who) k self.now
@@ -70,7 +70,7 @@ impl Memory {
         }
     }
 
-    /// The leaf that signs the message of an order, or `None` where its round isn't one of the session or its seat isn't one of a round.
+    /// The leaf that signs the message of an order, or `None` if the round isn't one of the session or the seat isn't one of a round.
     fn leaf(&self, say: Say) -> Option<u32>
         ensures { (k : Knowledge) (d : Datagram) → IsMemoryOf (member_of self.now.who) k self.now
             → IsRecent (member_of self.now.who) k say.x.round → IsSignedFor (member_of self.now.who) k say d
@@ -89,7 +89,7 @@ impl Memory {
     }
 }
 
-/// The exchange of an order that says a CASE.
+/// The exchange of an order, if the order sends a CASE.
 fn case_of(order: Order) -> Option<Exchange>
     ensures { IfSome result (λ x. order ≡ orders.Say (record { kind = kinds.Case; x = x })) }
 {
@@ -104,7 +104,7 @@ fn case_of(order: Order) -> Option<Exchange>
     }
 }
 
-/// Keeps the datagram of an order, of so many bytes at the front of a buffer, where it is a CASE.
+/// If an order sends a CASE, keeps its datagram: the first `len` bytes of the buffer.
 fn keep_case(memory: &Memory, cases: &mut Cases, order: Order, buf: &[u8], len: usize)
     requires cases { AreCasesNow memory.now cases.old }
     requires given { (k : Knowledge) (d : Datagram) → IsMemoryOf (member_of memory.now.who) k memory.now
@@ -122,7 +122,7 @@ fn keep_case(memory: &Memory, cases: &mut Cases, order: Order, buf: &[u8], len: 
 }
 
 impl Memory {
-    /// The number of the room for the CASE of an exchange: another one for each exchange in which a leaf signs one.
+    /// The number of the room for the CASE of an exchange. Exchanges whose CASEs are signed with different leaves have different numbers.
     fn room(&self, x: Exchange) -> usize {
         let case = Say {
             kind: Kind::Case,
@@ -134,7 +134,7 @@ impl Memory {
         }
     }
 
-    /// The receiver of what an order sends.
+    /// The receiver of an order's datagram.
     fn receiver(&self, order: Order) -> u16
         ensures { result ≡ receiver_of (member_of self.now.who) order }
     {
@@ -146,7 +146,7 @@ impl Memory {
 }
 
 impl<S: Scheme> Peer<S> {
-    /// Signs the message of an order behind it, where its kind is signed, and answers the length of both.
+    /// If the kind is signed, appends the signature to the message, and returns the length of both; else the message's length.
     fn sign(&self, say: Say, len: usize, buf: &mut [u8]) -> Option<usize>
         requires room { largest_datagram ≤ length buf.old }
         requires short { len ≤ largest_message }
@@ -167,7 +167,7 @@ impl<S: Scheme> Peer<S> {
         Some(len + scheme.sign(leaf, message, rest))
     }
 
-    /// Writes the datagram of an exchange that an order says to the front of a buffer, and answers its length.
+    /// Writes the datagram of an exchange that an order sends to the start of a buffer, and returns its length.
     fn give_said(&self, say: Say, buf: &mut [u8]) -> Option<usize>
         requires room { largest_datagram ≤ length buf.old }
         ensures { (k : Knowledge) (d : Datagram) → IsMemoryOf (member_of self.now.memory.who) k self.now.memory
@@ -177,7 +177,7 @@ impl<S: Scheme> Peer<S> {
         self.sign(say, len, buf)
     }
 
-    /// Writes the datagram of an order anew to the front of a buffer, and answers its length.
+    /// Encodes the datagram of an order at the start of a buffer, without the kept CASEs, and returns its length.
     fn give_anew(&self, order: Order, buf: &mut [u8]) -> Option<usize>
         requires room { largest_datagram ≤ length buf.old }
         ensures { (k : Knowledge) (d : Datagram) → IsMemoryOf (member_of self.now.memory.who) k self.now.memory
@@ -189,7 +189,7 @@ impl<S: Scheme> Peer<S> {
         }
     }
 
-    /// Writes the datagram of an order to the front of a buffer, and answers its length: a CASE as it is kept, where it is.
+    /// Writes the datagram of an order to the start of a buffer, and returns its length. A kept CASE is copied.
     fn give(&self, order: Order, buf: &mut [u8]) -> Option<usize>
         requires room { largest_datagram ≤ length buf.old }
         ensures { (k : Knowledge) (d : Datagram) → IsMemoryOf (member_of self.now.memory.who) k self.now.memory
@@ -203,7 +203,7 @@ impl<S: Scheme> Peer<S> {
         self.give_anew(order, buf)
     }
 
-    /// The CASE that an order says, where it is kept.
+    /// The kept CASE of an order, if there is one.
     fn kept_case(&self, order: Order) -> Option<&[u8]>
         ensures { (case : List ℕ) → option_copied result ≡ Some case
             → (k : Knowledge) (d : Datagram) → IsMemoryOf (member_of self.now.memory.who) k self.now.memory
@@ -213,7 +213,7 @@ impl<S: Scheme> Peer<S> {
         self.cases.get(self.memory.room(x), x)
     }
 
-    /// Writes the next datagram to the front of a buffer, and answers its receiver and its length, or `None` where none is left.
+    /// Writes the next datagram to the start of a buffer, and returns its receiver and its length, or `None` if none is left.
     pub fn next_out(&mut self, buf: &mut [u8]) -> Option<(u16, usize)>
         requires room { largest_datagram ≤ length buf.old }
         ensures gives { (inputs : Inputs) (sends : List (ℕ × Datagram)) → StandsFor self.old.memory inputs

@@ -1,10 +1,10 @@
-//! What a peer asks for at the first slot of a round.
+//! The requests of a peer at the first slot of a round.
 ghost use Rattle.std.specs.Prelude.{◌≡◌, ◌+◌, ◌≤◌, length};
 ghost use Rattle.bar_session.specs.Time.{round_after};
 ghost use Rattle.bar_rules.specs.Peer.Knowledge.{Knowledge};
-ghost use Rattle.bar_peer.specs.Ticking.{is_unasked, AsksPartner, AsksPartners};
-ghost use Rattle.bar_core.specs.Orders.{HasSameRoom};
-ghost use Rattle.bar_peer.specs.Memory.{member_of, IsMemoryOf, IsSameParty};
+ghost use Rattle.bar_peer.specs.Code.Ticking.{is_unasked, AsksPartner, AsksPartners};
+ghost use Rattle.bar_core.specs.Code.Orders.{HasSameRoom};
+ghost use Rattle.bar_peer.specs.Code.Memory.{member_of, IsMemoryOf, IsSameParty};
 
 use crate::memory::Memory;
 use crate::order::Order;
@@ -15,7 +15,7 @@ use bar_window::{Role, XKind};
 use bar_wire::exchange_by;
 
 impl Memory {
-    /// Whether a party isn't asked: it is announced evicted, or owes this peer a key.
+    /// Whether a party isn't asked for exchanges: it is announced evicted, or owes this peer a key.
     fn is_unasked(&self, party: u16) -> bool
         ensures { (k : Knowledge) → IsMemoryOf (member_of self.now.who) k self.now → result ≡ is_unasked (member_of self.now.who) k party }
     {
@@ -26,8 +26,7 @@ impl Memory {
     }
 }
 
-/// Asks the partner of this round, one of the session, for an exchange of a kind, where the partner isn't announced evicted and owes no
-/// key.
+/// Asks this round's partner for an exchange of a kind, unless it is announced evicted or owes a key. The round must be one of the session.
 fn ask_partner(memory: &mut Memory, orders: &mut Orders<Order>, kind: XKind)
     requires first { 1 ≤ round_after memory.old.ticks }
     requires last { round_after memory.old.ticks ≤ memory.old.who.session.shape.rounds }
@@ -50,7 +49,8 @@ fn ask_partner(memory: &mut Memory, orders: &mut Orders<Order>, kind: XKind)
     }
 }
 
-/// Asks the partners of this round, one of the session, for a balanced exchange, and for a push where there are young updates to offer.
+/// Asks this round's partners for a balanced exchange and, if there are young updates to offer, for a push. The round must be one of the
+/// session.
 pub fn ask_partners(memory: &mut Memory, orders: &mut Orders<Order>)
     requires first { 1 ≤ round_after memory.old.ticks }
     requires last { round_after memory.old.ticks ≤ memory.old.who.session.shape.rounds }

@@ -1,13 +1,13 @@
-//! How a peer says what is due, and puts it into the queue of orders.
+//! How a peer carries out replies, and queues their datagrams as orders.
 ghost use Rattle.std.specs.Prelude.{◌≡◌, ◌+◌, ◌≤◌, ◌&&◌, [], true, length};
 ghost use Rattle.std.specs.List.{AllByRecursion};
 ghost use Rattle.bar_rules.specs.Peer.Knowledge.{known};
 ghost use Rattle.bar_rules.specs.Peer.Rules.{IsObedient};
 ghost use Rattle.bar_rules.specs.Peer.Run.{Out, perform, perform_all};
-ghost use Rattle.bar_exchange.specs.Says.{order_by, orders_of_reply, says_in};
-ghost use Rattle.bar_peer.specs.Memory.{member_of, IsSameParty};
-ghost use Rattle.bar_peer.specs.Sending.{MaySayNow, HasOutcome};
-ghost use Rattle.bar_core.specs.Orders.{HasSameRoom};
+ghost use Rattle.bar_exchange.specs.Code.Says.{order_by, orders_of_reply, says_in};
+ghost use Rattle.bar_peer.specs.Code.Memory.{member_of, IsSameParty};
+ghost use Rattle.bar_peer.specs.Code.Sending.{MaySayNow, HasOutcome};
+ghost use Rattle.bar_core.specs.Code.Orders.{HasSameRoom};
 
 use crate::memory::Memory;
 use crate::order::Order;
@@ -20,7 +20,7 @@ fn both(one: bool, two: bool) -> bool
     one && two
 }
 
-/// Carries out a reply, and answers whether the memory stayed as it was: so it is where what was said is said again.
+/// Carries out a reply. Returns true, with the memory unchanged, if its datagram was sent before or isn't signed.
 fn reply_once(memory: &mut Memory, orders: &mut Orders<Order>, say: Say) -> bool
     ensures stands { (out : Out)
         → IsObedient (member_of memory.old.who) (perform (member_of memory.old.who) out (order_by say.kind say.x)).state
@@ -42,7 +42,7 @@ fn reply_once(memory: &mut Memory, orders: &mut Orders<Order>, say: Say) -> bool
     false
 }
 
-/// Carries out replies, in order, and answers whether the memory stayed as it was.
+/// Carries out replies, in order. Returns true only if the memory is unchanged.
 pub fn reply(memory: &mut Memory, orders: &mut Orders<Order>, says: Says) -> bool
     ensures stands { (out : Out)
         → IsObedient (member_of memory.old.who) (perform_all (member_of memory.old.who) out (orders_of_reply says)).state

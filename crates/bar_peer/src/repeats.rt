@@ -1,23 +1,23 @@
-//! What was admitted before under the same name.
+//! Datagrams that were admitted before under the same name.
 ghost use Rattle.std.specs.Prelude.{◌≡◌, option_map, option_copied, ℕ, List};
 ghost use Rattle.std.specs.Bool.{then_some};
 ghost use Rattle.bar_wire.specs.Datagram.{place_of};
-ghost use Rattle.bar_wire.specs.Views.{plain, IsView};
+ghost use Rattle.bar_wire.specs.Code.Views.{plain, IsView};
 ghost use Rattle.bar_rules.specs.Values.{datagram_bytes};
 ghost use Rattle.bar_rules.specs.Peer.Admission.{is_heard_again};
 ghost use Rattle.bar_rules.specs.Peer.Knowledge.{Knowledge};
 ghost use Rattle.bar_rules.specs.Peer.Replies.{heard_like, repeated};
-ghost use Rattle.bar_balanced.specs.Balanced.{AreSpelled};
-ghost use Rattle.bar_peer.specs.Arrivals.{IsReadBy, datagram_by};
-ghost use Rattle.bar_peer.specs.Memory.{member_of, IsMemoryOf};
-ghost use Rattle.bar_peer.specs.Repeats.{IsInTime};
+ghost use Rattle.bar_balanced.specs.Code.Balanced.{AreSpelled};
+ghost use Rattle.bar_peer.specs.Code.Arrivals.{IsReadBy, datagram_by};
+ghost use Rattle.bar_peer.specs.Code.Memory.{member_of, IsMemoryOf};
+ghost use Rattle.bar_peer.specs.Code.Repeats.{IsInTime};
 
 use crate::arrival::Arrival;
 use crate::memory::Memory;
 use bar_wire::{Body, bytes_spell_one, kind_of};
 
 impl Memory {
-    /// The datagram of the same kind, exchange and side that was admitted.
+    /// The datagram of the same kind, exchange and side that was admitted before.
     fn heard_like(&self, arrival: &Arrival<'_>) -> Option<&[u8]>
         ensures { (k : Knowledge) → IsMemoryOf (member_of self.now.who) k self.now
             → IsInTime (member_of self.now.who) k (datagram_by self.now.who arrival.now).message
@@ -29,7 +29,7 @@ impl Memory {
             .heard_from(place.x, kind_of(&arrival.view.body), place.role)
     }
 
-    /// Whether a datagram of the same name was admitted, where the kind is signed.
+    /// Whether the kind is signed and a datagram of the same name was admitted before.
     pub fn is_heard_again(&self, arrival: &Arrival<'_>) -> bool
         ensures { (k : Knowledge) (bytes : List ℕ) → IsMemoryOf (member_of self.now.who) k self.now
             → IsView self.now.who.session.shape bytes arrival.now.view
@@ -43,7 +43,7 @@ impl Memory {
         }
     }
 
-    /// Whether a datagram is a repeat, byte for byte, of one of an exchange that was admitted, from a party that isn't announced evicted.
+    /// Whether a datagram repeats an admitted one of an exchange, byte for byte, and its sender isn't announced evicted.
     pub fn is_repeat(&self, arrival: &Arrival<'_>) -> bool
         requires view { IsReadBy self.now.who arrival.now }
         ensures { (k : Knowledge) → IsMemoryOf (member_of self.now.who) k self.now → AreSpelled (member_of self.now.who) k

@@ -1,4 +1,4 @@
-//! What a peer says.
+//! The messages that a peer sends in its exchanges.
 ghost use Rattle.std.specs.Prelude.{◌≡◌, false, is_some};
 ghost use Rattle.bar_window.specs.declared.exchange.Role.TheVariants.{Initiator};
 ghost use Rattle.bar_rules.specs.Peer.Agreement.{IsRecent};
@@ -7,9 +7,9 @@ ghost use Rattle.bar_rules.specs.Peer.Knowledge.{Knowledge, known, this_round};
 ghost use Rattle.bar_rules.specs.Peer.Orders.{Ask};
 ghost use Rattle.bar_rules.specs.Peer.Rules.{IsObedient};
 ghost use Rattle.bar_rules.specs.Peer.Run.{Out, perform};
-ghost use Rattle.bar_exchange.specs.Says.{order_by};
-ghost use Rattle.bar_peer.specs.Memory.{member_of, IsMemoryOf, Represents, IsSameParty};
-ghost use Rattle.bar_peer.specs.Sending.{send_now, MaySayNow, IsCarriedOut};
+ghost use Rattle.bar_exchange.specs.Code.Says.{order_by};
+ghost use Rattle.bar_peer.specs.Code.Memory.{member_of, IsMemoryOf, Represents, IsSameParty};
+ghost use Rattle.bar_peer.specs.Code.Sending.{send_now, MaySayNow, IsCarriedOut};
 
 use crate::memory::Memory;
 use bar_exchange::{Say, say_case, say_key};
@@ -19,7 +19,7 @@ use bar_laws::rooms::exchanges_are_few;
 use bar_window::{Exchange, XKind};
 use bar_wire::Kind;
 
-/// What asks for an exchange.
+/// The message that asks for an exchange.
 pub fn request(x: Exchange) -> Say
     ensures { result ≡ record { kind = request_kind x.kind; x = x } }
 {
@@ -31,7 +31,7 @@ pub fn request(x: Exchange) -> Say
 }
 
 impl Memory {
-    /// Whether it is known what the initiator of a balanced exchange commits to.
+    /// Whether the nonce and history are known that the initiator of a balanced exchange commits to; false for a push.
     fn may_reveal(&self, x: Exchange) -> bool
         ensures { (k : Knowledge) → IsMemoryOf (member_of self.now.who) k self.now → IsRecent (member_of self.now.who) k x.round
             → result ≡ is_some (k.revealed x) }
@@ -42,7 +42,8 @@ impl Memory {
         }
     }
 
-    /// Whether there is a datagram to send again: one of this kind was said in the exchange, or is one that isn't signed.
+    /// Whether there is a datagram to send again: one of this kind was sent in the exchange before, or the kind isn't signed and its body
+    /// is known.
     pub fn may_repeat(&self, say: Say) -> bool
         ensures { (k : Knowledge) → IsMemoryOf (member_of self.now.who) k self.now → IsRecent (member_of self.now.who) k say.x.round
             → result ≡ is_some (send_now (member_of self.now.who) k say) }
@@ -54,7 +55,7 @@ impl Memory {
         }
     }
 
-    /// Says a reply for the first time, where there is none to send again, and answers whether there is one to send.
+    /// Says a reply for the first time, if there is none to send again. Returns whether there is one to send.
     pub fn say(&mut self, say: Say) -> bool
         ensures carried_out { (out : Out)
             → IsObedient (member_of self.old.who) (perform (member_of self.old.who) out (order_by say.kind say.x)).state
@@ -82,7 +83,7 @@ impl Memory {
         }
     }
 
-    /// Asks a partner for an exchange of this round.
+    /// Asks a partner for an exchange of this round. Returns whether there is a datagram to send.
     pub fn ask(&mut self, x: Exchange) -> bool
         ensures carried_out { (out : Out)
             → IsObedient (member_of self.old.who) (perform (member_of self.old.who) out (Ask x)).state

@@ -1,21 +1,21 @@
-//! What a peer does at an input.
+//! How a peer takes an input.
 ghost use Rattle.std.specs.Prelude.{◌≡◌, ◌+◌, ◌*◌, ◌≤◌, ◌++◌, ◌∷◌, ◌↔◌, [], true, false, nat_le, IsTrue};
-ghost use Rattle.bar_seeds.specs.Checkpoints.{MovesOn};
-ghost use Rattle.bar_seal.specs.Memo.{has_pair};
+ghost use Rattle.bar_seeds.specs.Code.Checkpoints.{MovesOn};
+ghost use Rattle.bar_seal.specs.Code.Memo.{has_pair};
 ghost use Rattle.bar_wire.specs.Inputs.{plain_input};
 ghost use Rattle.bar_session.specs.Time.{last_tick};
 ghost use Rattle.bar_rules.specs.Peer.Knowledge.{known};
 ghost use Rattle.bar_rules.specs.Peer.Log.{Log};
 ghost use Rattle.bar_rules.specs.Peer.Run.{log_after, step};
 ghost use Rattle.bar_rules.specs.Peer.Ticks.{contents_at_tick};
-ghost use Rattle.bar_peer.specs.Checking.{Checks, IsCheckedOnce, IsGuardOf, IsSeedKept, RemembersAdmitted, StandsFirst};
-ghost use Rattle.bar_peer.specs.Checking.{bytes_in, checked_in, datagram_in, round_in, sender_in, shown_in, shows_seed};
+ghost use Rattle.bar_peer.specs.Code.Checking.{Checks, IsCheckedOnce, IsGuardOf, IsSeedKept, RemembersAdmitted, StandsFirst};
+ghost use Rattle.bar_peer.specs.Code.Checking.{bytes_in, checked_in, datagram_in, round_in, sender_in, shown_in, shows_seed};
 ghost use Rattle.bar_laws.specs.Ignoring.{is_unread};
-ghost use Rattle.bar_peer.specs.Ignoring.{Ignores, IgnoresInput, StaysAsBefore};
-ghost use Rattle.bar_peer.specs.Memory.{member_of, Represents};
-ghost use Rattle.bar_core.specs.Orders.{left_in, HasSameRoom};
-ghost use Rattle.bar_peer.specs.StandsFor.{Inputs, StandsFor, AreLeft, contents_left};
-ghost use Rattle.bar_peer.specs.Steps.{TakesInput, is_tick};
+ghost use Rattle.bar_peer.specs.Code.Ignoring.{Ignores, IgnoresInput, StaysAsBefore};
+ghost use Rattle.bar_peer.specs.Code.Memory.{member_of, Represents};
+ghost use Rattle.bar_core.specs.Code.Orders.{left_in, HasSameRoom};
+ghost use Rattle.bar_peer.specs.Code.StandsFor.{Inputs, StandsFor, AreLeft, contents_left};
+ghost use Rattle.bar_peer.specs.Code.Steps.{TakesInput, is_tick};
 
 use crate::guard::Guard;
 use crate::intake::{take_datagram, take_tick};
@@ -53,7 +53,7 @@ fn is_tick(input: &Input<'_>) -> bool
     }
 }
 
-/// Takes an input that comes before the last tick is taken, and answers whether the memory stayed as it was. It counts each hash.
+/// Takes an input before the last tick was taken. It counts each hash. Returns true only if the memory is unchanged.
 #[tactic(auto, using(crate::proofs::Stepping::Guards::checks_none))]
 fn take_input<V: Verifier, L: StepLedger>(
     memory: &mut Memory,
@@ -87,7 +87,7 @@ fn take_input<V: Verifier, L: StepLedger>(
 }
 
 impl Memory {
-    /// What the tick that was taken last plays: at the first slot of a round the updates of the round that a life ended.
+    /// What the last tick plays: at the first slot of a round, the updates of the round whose life ended.
     fn played_now(&self) -> Playing
         ensures { (log : Log) → Represents log self.now
             → contents_left self.now.store result ≡ contents_at_tick (member_of self.now.who) (known (member_of self.now.who) log) }
@@ -103,16 +103,16 @@ impl Memory {
 }
 
 impl<S: Scheme> Peer<S> {
-    /// Whether all that the last input gave is given out.
+    /// Whether all output of the last input was given out.
     pub fn idle(&self) -> bool
         ensures { IsTrue result ↔ ((left_in self.now.orders ≡ []) × (contents_left self.now.memory.store self.now.playing ≡ [])) }
     {
         self.orders.is_empty() && self.playing.is_over(&self.memory)
     }
 
-    /// Takes an input, once all that the one before gave is given out. After its last tick a peer ignores every input. It takes no memory,
-    /// and counts each hash: those of at most one verification, and of at most twice the way along the seeds from the round of a REQUEST or a
-    /// QUERY. What is remembered as accepted isn't verified.
+    /// Takes an input, once all output of the previous one was given out. After its last tick a peer ignores every input. It allocates no
+    /// memory. It counts each hash: at most those of one verification, twice the steps along the seeds from the round of a REQUEST or a
+    /// QUERY, and 128 more. A datagram that is remembered as accepted isn't verified.
     #[tactic(auto, using(bar_seeds::proofs::CheckpointLemmas::moves_none))]
     pub fn step<L: StepLedger>(&mut self, input: Input<'_>, steps: &mut Steps<L>)
         requires sends { left_in self.old.orders ≡ [] }
@@ -127,19 +127,19 @@ impl<S: Scheme> Peer<S> {
             → contents_left self.new.memory.store self.new.playing
             ≡ (step (member_of self.old.memory.who) (log_after (member_of self.old.memory.who) [] inputs)
             (plain_input input.entry)).contents }
-        // what isn't read changes nothing, and what is ignored at most what is remembered and kept of seeds
+        // bytes that don't decode change nothing; an ignored datagram changes at most the memo and the kept seeds
         ensures unread { is_unread self.old.memory.who.session (plain_input input.entry) ≡ true
             → StaysAsBefore self.old.memory self.new.memory self.new.orders self.new.playing
             × (self.new.guard ≡ self.old.guard) }
         ensures ignored { Ignores self.old.memory (plain_input input.entry) self.new.memory self.new.orders self.new.playing }
         ensures who { self.new.memory.who ≡ self.old.memory.who }
         ensures verifier { self.new.guard.checker.verifier ≡ self.old.guard.checker.verifier }
-        // how many hashes it takes at the most, and how many where the datagram is remembered
+        // the most hashes that it takes, and the most if the datagram is remembered
         ensures most { steps.new ≤ steps.old + (S.Verifier.most_steps self.old.guard.checker.verifier
             + 2 * round_in self.old.memory.who.session (plain_input input.entry) + 128) }
         ensures remembered { has_pair (checked_in self.old.memory.who.session (plain_input input.entry)) self.old.guard.checker.memo.pairs ≡ true
             → shows_seed self.old.memory.who.session (plain_input input.entry) ≡ false → steps.new ≤ steps.old + 128 }
-        // what is remembered of datagrams that were checked, and of the peers' seeds
+        // what is remembered of checked datagrams and of the peers' seeds
         ensures memo { IsCheckedOnce (checked_in self.old.memory.who.session (plain_input input.entry))
             self.old.guard.checker.memo self.new.guard.checker.memo }
         ensures first { StandsFirst self.old.memory (plain_input input.entry) self.new.guard.checker.memo }

@@ -1,4 +1,4 @@
-//! What a peer sends at a tick.
+//! What a peer sends at a tick, and how it takes one.
 ghost use Rattle.std.specs.Prelude.{◌≡◌, ◌==◌, ◌+◌, ◌<◌, ◌≤◌, ◌∷◌, [], length};
 ghost use Rattle.bar_session.specs.Time.{last_tick, slot_after};
 ghost use Rattle.bar_rules.specs.Peer.Agreement.{IsRecent};
@@ -6,11 +6,11 @@ ghost use Rattle.bar_rules.specs.Peer.Knowledge.{Knowledge, known};
 ghost use Rattle.bar_rules.specs.Peer.Log.{Log, Ticked};
 ghost use Rattle.bar_rules.specs.Peer.Run.{Out, perform, perform_all};
 ghost use Rattle.bar_rules.specs.Runs.{begun};
-ghost use Rattle.bar_exchange.specs.Says.{order_again, orders_at_tick};
-ghost use Rattle.bar_peer.specs.Memory.{member_of, IsMemoryOf, Represents, IsSameParty};
-ghost use Rattle.bar_peer.specs.Ticking.{orders_of_open, orders_of_opens, most_orders, is_first_slot, Acts};
-ghost use Rattle.bar_peer.specs.Sending.{IsTimely, HasOutcome};
-ghost use Rattle.bar_core.specs.Orders.{HasSameRoom};
+ghost use Rattle.bar_exchange.specs.Code.Says.{order_again, orders_at_tick};
+ghost use Rattle.bar_peer.specs.Code.Memory.{member_of, IsMemoryOf, Represents, IsSameParty};
+ghost use Rattle.bar_peer.specs.Code.Ticking.{orders_of_open, orders_of_opens, most_orders, is_first_slot, Acts};
+ghost use Rattle.bar_peer.specs.Code.Sending.{IsTimely, HasOutcome};
+ghost use Rattle.bar_core.specs.Code.Orders.{HasSameRoom};
 
 use crate::memory::Memory;
 use crate::order::Order;
@@ -24,7 +24,7 @@ use bar_roster::{SLOTS_A_ROUND, round_after, slot_after};
 use bar_window::Exchange;
 
 impl Memory {
-    /// Takes a tick: the next slot, and at its first one the next round, for which what can't be asked about any more is given up.
+    /// Takes a tick: the next slot, or the first slot of the next round. Then all that can't be asked about any more is dropped.
     pub fn tick(&mut self)
         requires { self.old.ticks < last_tick self.old.who.session }
         ensures learns { (log : Log) → Represents log self.old → Represents (Ticked ∷ log) self.new }
@@ -53,7 +53,7 @@ impl Memory {
         slot_after(self.ticks) == SLOTS_A_ROUND - 1
     }
 
-    /// What is said again of an open exchange: nothing where its partner is announced evicted.
+    /// What is sent again in an open exchange: nothing if its partner is announced evicted.
     fn again(&self, x: Exchange) -> Says
         ensures { (k : Knowledge) → IsMemoryOf (member_of self.now.who) k self.now
             → orders_at_tick result ≡ orders_of_open (member_of self.now.who) k x }
@@ -65,7 +65,7 @@ impl Memory {
     }
 }
 
-/// Sends again what was said of a kind, or what isn't signed, where there is such.
+/// Sends a message again: one that was sent before, or one that isn't signed, if there is one.
 fn repeat(memory: &Memory, orders: &mut Orders<Order>, say: Say)
     ensures stands { (out : Out) → HasOutcome out memory.now orders.old
         → IsTimely (member_of memory.now.who) (known (member_of memory.now.who) out.state) say
@@ -79,7 +79,7 @@ fn repeat(memory: &Memory, orders: &mut Orders<Order>, say: Say)
     }
 }
 
-/// Says again what an open exchange lacks, where its partner isn't announced evicted.
+/// Sends again what an open exchange is waiting for, unless its partner is announced evicted.
 fn repeat_once(memory: &Memory, orders: &mut Orders<Order>, x: Exchange)
     ensures stands { (out : Out) → HasOutcome out memory.now orders.old
         → IsRecent (member_of memory.now.who) (known (member_of memory.now.who) out.state) x.round
@@ -99,7 +99,7 @@ fn repeat_once(memory: &Memory, orders: &mut Orders<Order>, x: Exchange)
     }
 }
 
-/// Says again what the open exchanges lack, in order.
+/// Sends again what the open exchanges are waiting for, in order.
 fn repeat_all(memory: &Memory, orders: &mut Orders<Order>)
     ensures stands { (log : Log) → Represents log memory.now → orders.old.list.items ≡ []
         → most_orders memory.now.who.session ≤ orders.old.room
@@ -119,8 +119,8 @@ fn repeat_all(memory: &Memory, orders: &mut Orders<Order>)
     }
 }
 
-/// Sends what a tick asks for: again what the open exchanges lack, at the first slot of a round of the session its requests, and at the last
-/// slot of a round the reports of evidence.
+/// Sends all that a tick asks for. First it sends again what the open exchanges are waiting for. At the first slot of a round of the
+/// session it sends requests. At the last slot of a round it reports evidence.
 pub fn act(memory: &mut Memory, orders: &mut Orders<Order>)
     ensures stands { Acts memory.old orders.old memory.new orders.new }
     ensures room { HasSameRoom orders.old orders.new }

@@ -1,4 +1,4 @@
-/// Whether a datagram is admitted, and whether evidence is looked for at it.
+/// Whether a datagram is admitted, and whether it is searched for evidence.
 #[derive(Clone, Copy, Debug)]
 pub struct Weighed {
     pub is_admitted: bool,

@@ -2,7 +2,7 @@ use crate::outcome::words_of;
 use bar_arguments::{WordsFault, id_of, number_in, option_values};
 use std::test::Fail;
 
-/// The words of the options `key` and `found`, and what these are, of which a row of other cells has none.
+/// Rows of arguments and the values of the options `key` and `found` that they give. If a row has too few cells, both values are empty.
 const TAKEN: &str = "\
     --key k --found f|k|f;\
     --found f --key k|k|f;\
@@ -24,7 +24,7 @@ fn taken_words_have_their_values(rt: HostRuntime) -> Result<(), Fail> {
     Ok(())
 }
 
-/// Words of which none are those of the options.
+/// Lines of arguments, each of which is refused for these options.
 const REFUSED: &str = "\
     ;\
     --key k;\

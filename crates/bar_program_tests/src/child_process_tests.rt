@@ -1,4 +1,4 @@
-//! Sessions over a spawner and a sink in memory.
+//! Tests of sessions over a spawner and a sink in memory.
 use crate::outcome::words_of;
 use bar_child_processes::{Outcome, SessionNames, run_children};
 use bar_outside::{MemCall, MemSink, MemSpawner};
@@ -13,8 +13,8 @@ const NAMES: SessionNames<'static> = SessionNames {
     program: "bar",
 };
 
-// The statuses of the children, the calls of the spawner and of the sink that fail, what is printed, the outcome, and how many calls the
-// spawner took.
+// The statuses of the children, the failing calls of the spawner and the sink, what is printed, the outcome, and the number of calls of the
+// spawner.
 const SESSIONS: [(&[i32], &[u64], &[u64], &str, Outcome, usize); 6] = [
     (
         &[0, 0, 6],

@@ -1,4 +1,5 @@
-//! Replays, and a peer, over files, links and sinks in memory. The keys and the signature are by a Python program written from RFC 8554.
+//! Tests of replays and of a peer, over files, links and sinks in memory. The keys and the signature were made by a Python program written
+//! from RFC 8554.
 use crate::outcome::{Left, check_end, check_file, check_status, outside_of, run};
 use bar_outside::MemFiles;
 use bar_samples::keys::{peer_key, small_key};
@@ -13,7 +14,7 @@ const LINE: &str = "replay --recording rec --session ses --found f --played p --
 
 const PEER_LINE: &str = "peer --session ses --key k --begin 0 --played p --recording rec --found f";
 
-/// What a datagram of the broadcaster in round 1 begins with.
+/// The start of a datagram of the broadcaster in round 1.
 fn front_of(alloc: Global, kind: u8, to: [u8; 2]) -> Result<Vec<u8>, AllocError> {
     let mut bytes = [0xba, 0x47, 0x01, kind].to_vec(alloc)?;
     bytes.extend_from_slice(&ID)?;
@@ -30,7 +31,7 @@ fn manifest_of(alloc: Global, block: &[u8; 1024]) -> Result<Vec<u8>, Fail> {
     Ok(bytes)
 }
 
-/// That block, for party 2.
+/// The BLOCK datagram of that block, for party 2.
 fn block_of(alloc: Global, block: &[u8; 1024]) -> Result<Vec<u8>, AllocError> {
     let mut bytes = front_of(alloc, 2, [0, 2])?;
     bytes.push(0)?;
@@ -38,7 +39,7 @@ fn block_of(alloc: Global, block: &[u8; 1024]) -> Result<Vec<u8>, AllocError> {
     Ok(bytes)
 }
 
-/// The recording of party 2 that took both, and the ticks up to that in which the block of round 1 is played.
+/// The recording of party 2 that took both datagrams, and the ticks up to that in which the block of round 1 is played.
 fn recording_of(alloc: Global, manifest: &[u8], block: &[u8]) -> Result<Vec<u8>, AllocError> {
     let mut bytes = b"BARL\x01".to_vec(alloc)?;
     bytes.extend_from_slice(&ID)?;
@@ -58,7 +59,7 @@ fn recording(alloc: Global) -> Result<Vec<u8>, Fail> {
     Ok(recording_of(alloc, &manifest, &block)?)
 }
 
-/// The files of a session, of a key and of a recording, where these calls fail.
+/// Files with a session, a key and a recording, of which these calls fail.
 fn files_of(
     alloc: Global,
     session: &str,
@@ -73,7 +74,7 @@ fn files_of(
     Ok(files)
 }
 
-/// A replay in a session, where these calls of the files and these writes to out and to err fail.
+/// Runs a replay of which these calls of the files and these writes to out and err fail.
 fn replay(
     alloc: Global,
     session: &str,
@@ -94,7 +95,7 @@ fn count_lines(left: &Left) -> usize {
         .count()
 }
 
-/// The failing calls of the files and of out, and the status, what was played, and how many lines were begun.
+/// The failing calls of the files and of out, the status, what was played, and how many lines were begun.
 const ENDS: [(&[u64], &[u64], u8, &[u8], usize); 10] = [
     (&[], &[], 0, b"hi", 16),
     (&[1], &[], 3, b"none", 0),
@@ -108,7 +109,7 @@ const ENDS: [(&[u64], &[u64], u8, &[u8], usize); 10] = [
     (&[], &[16], 7, b"", 16),
 ];
 
-/// The line of a status.
+/// The error line for a status.
 fn said(status: u8) -> &'static str {
     match status {
         3 => "bar: file failed\n",
@@ -131,7 +132,7 @@ fn statuses_and_lines(rt: HostRuntime) -> Result<(), Fail> {
     Ok(())
 }
 
-/// The status tells of the session even where standard error can't be written.
+/// The status reports the bad session even if standard error can't be written.
 #[test]
 fn a_closed_standard_error(rt: HostRuntime) -> Result<(), Fail> {
     let left = replay(rt.alloc(), "version = 4", b"", &[], &[], &[1])?;
@@ -140,7 +141,7 @@ fn a_closed_standard_error(rt: HostRuntime) -> Result<(), Fail> {
     Ok(())
 }
 
-/// Over a link that ends at once a peer does nothing, and so does a replay of the recording that it left.
+/// If the link ends at once, a peer does nothing, and so does a replay of the recording that it left.
 #[test]
 fn a_peer_whose_link_ends_at_once(rt: HostRuntime) -> Result<(), Fail> {
     let alloc = rt.alloc();

@@ -1,4 +1,4 @@
-//! Each call of a short run that can fail does so once, one after another: of its files, its link, its output, its children.
+//! Tests in which each call of a short run that can fail does so once: calls of its files, link, output and children.
 ghost use Rattle.std.specs.Prelude.{true};
 
 use crate::outcome::{Left, Outside, outside_of, run};
@@ -10,7 +10,7 @@ use std::alloc::{AllocError, Global};
 use std::process::Abort;
 use std::test::Fail;
 
-/// A command that runs shortly.
+/// A command with a short run.
 #[derive(Clone, Copy)]
 enum Short {
     Peer,
@@ -54,7 +54,7 @@ impl Short {
     }
 }
 
-/// An object of the outside, a call of which fails.
+/// An object of the outside whose call fails.
 #[derive(Clone, Copy)]
 enum Object {
     Files,
@@ -64,7 +64,7 @@ enum Object {
 }
 
 impl Object {
-    /// The status of a run in which its call fails, and the line that says so.
+    /// The status of a run in which a call of this object fails, and the error line.
     fn end(self) -> (u8, &'static str) {
         match self {
             Object::Files => (3, "bar: file failed\n"),
@@ -75,7 +75,7 @@ impl Object {
     }
 }
 
-/// The number of the call that fails, where it is one of these; no call has number 0.
+/// The number of the failing call, or 0, which no call has, if none of this object fails.
 fn number_for(alloc: Global, fails: bool, number: u64) -> Result<Vec<u64>, AllocError> {
     let number = if fails { number } else { 0 };
     [number].to_vec(alloc)
@@ -90,7 +90,7 @@ fn recording_of(alloc: Global, party: u8, ticks: &[u8]) -> Result<Vec<u8>, Alloc
     Ok(bytes)
 }
 
-/// Evidence of a REQUEST whose seed is none of its sender's.
+/// Evidence of a REQUEST whose seed isn't one of its sender's.
 fn shown_evidence(alloc: Global) -> Result<Vec<u8>, Fail> {
     let mut request = front(alloc, 3, [0, 1, 0, 2], 1)?;
     request.extend_from_slice(&[0; 64])?;
@@ -103,8 +103,8 @@ fn shown_evidence(alloc: Global) -> Result<Vec<u8>, Fail> {
     Ok(evidence(alloc, &request, None)?)
 }
 
-/// Prepares what the short runs read: evidence that shows a fault, evidence of a datagram of one byte, by itself and in a proof file, an empty
-/// table that is an empty stream, too, and recordings of no datagram.
+/// Prepares the files that the short runs read: evidence that shows a fault; evidence of a datagram of one byte, alone and in a proof file;
+/// an empty table, which is also an empty stream; and recordings without datagrams.
 fn put_all(alloc: Global, files: &mut MemFiles, shown: &[u8]) -> Result<(), AllocError> {
     files.put("w", shown)?;
     files.put("s", small_session().as_bytes())?;
@@ -129,7 +129,7 @@ fn link_of(alloc: Global, fail: Vec<u64>) -> Result<MemLink, AllocError> {
     Ok(MemLink::make(alloc, list, fail))
 }
 
-/// The outside of a short run, of which the call of an object with this number fails.
+/// The outside of a short run, in which an object's call of this number fails.
 fn outside_by(
     alloc: Global,
     object: Object,
@@ -162,7 +162,7 @@ fn run_with(
     )
 }
 
-/// Whether a file holds a front of what it holds behind a whole run, or what it held before it.
+/// Whether a file holds a prefix of what it holds after a whole run, or what it held before it.
 fn is_front(left: &Left, whole: &Left, path: &str) -> bool {
     match (left.outside.files.get(path), whole.outside.files.get(path)) {
         (Some(bytes), Some(all)) => all.starts_with(bytes),
@@ -171,14 +171,14 @@ fn is_front(left: &Left, whole: &Left, path: &str) -> bool {
     }
 }
 
-/// Checks that what was printed is a front of what a whole run prints.
+/// Checks that what was printed is a prefix of what a whole run prints.
 fn check_printed(rt: &impl Abort, left: &Left, whole: &Left, number: u64) {
     let printed = left.outside.out.bytes();
     let all = whole.outside.out.bytes();
     assert!(rt; all.starts_with(printed), "at {number}");
 }
 
-/// Checks that each child that was started is waited for: three starts come first, and a refused one is no call.
+/// Checks that each started child is waited for. The three starts come first, and a refused start isn't listed as a call.
 fn check_waited(rt: &impl Abort, left: &Left, number: u64) {
     let calls = match number {
         1 => 0,
@@ -189,8 +189,8 @@ fn check_waited(rt: &impl Abort, left: &Left, number: u64) {
     assert!(rt; left.outside.spawn.calls().len() == calls, "at {number}");
 }
 
-/// Checks the end of a run in which a call failed: what it played, recorded and printed are fronts of what a whole run does. A session prints
-/// nothing of a child whose start or wait failed, and goes on with those that were started.
+/// Checks the end of a run in which a call failed. What it played, recorded and printed are prefixes of what a whole run plays, records and
+/// prints. A session prints nothing about a child whose start or wait failed, and continues with those that were started.
 fn check_stopped(rt: &impl Abort, left: &Left, whole: &Left, object: Object, number: u64) {
     let (status, line) = object.end();
     assert!(rt; left.status == status, "at {number}");
@@ -206,7 +206,7 @@ fn check_stopped(rt: &impl Abort, left: &Left, whole: &Left, object: Object, num
 /// More calls than a short run makes.
 const MANY: u64 = 100;
 
-/// Lets each call of an object fail, up to the first number that no call has: then the run is whole. Answers how many calls there are.
+/// Makes each call of an object fail in turn, up to the first number that no call has; that run is whole. Returns how many calls there are.
 fn count_calls(
     rt: &impl Abort,
     alloc: Global,
@@ -226,7 +226,7 @@ fn count_calls(
     panic!(rt; "it makes more calls")
 }
 
-/// Of each command, the objects that it uses.
+/// The objects that each command uses.
 const USED: [(Short, &[Object]); 12] = [
     (Short::Peer, &[Object::Files, Object::Link, Object::Output]),
     (

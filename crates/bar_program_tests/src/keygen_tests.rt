@@ -1,14 +1,14 @@
-//! A key over files and sinks in memory. The expected texts are by programs that share nothing with this one.
+//! Tests of `keygen` over files and sinks in memory. The expected texts were made by independent programs.
 use crate::outcome::{Left, check_end, check_file, outside_of, run};
 use bar_outside::MemFiles;
 use std::alloc::{AllocError, Global};
 use std::test::Fail;
 
-/// The broadcaster's key from the secret of 32 bytes 7.
+/// The command line for the broadcaster's key from a secret of 32 times the byte 7.
 const CASTER: &str =
     "keygen --key=k --secret s --ots=4 --lms 5 --rounds=1 --id 0011223344556677 --party 0";
 
-/// It is made where these calls of the files and these writes to out fail.
+/// Runs `keygen` while these calls of the files and these writes to out fail.
 fn run_keygen(alloc: Global, fail_files: &[u64], fail_out: &[u64]) -> Result<Left, AllocError> {
     let mut files = MemFiles::make(alloc, fail_files.to_vec(alloc)?);
     files.put("s", &[7; 32])?;
@@ -24,8 +24,8 @@ const KEY: &str =
 
 const FAILED: &str = "bar: file failed\n";
 
-/// The failing calls of the files and writes to out, and the status, what err has, and how much was printed and written of the key file,
-/// where a file that isn't there has nothing.
+/// The failing calls of the files and writes to out, the status, the output on err, and how many bytes were printed and written to the key
+/// file, `None` if the file doesn't exist.
 const ENDS: [(&[u64], &[u64], u8, &str, usize, Option<usize>); 5] = [
     (&[1], &[], 3, FAILED, 0, None),
     (&[2], &[], 3, FAILED, 0, None),

@@ -1,6 +1,6 @@
-//! Tests of nodes, of child programs and of command lines, over an outside in memory.
+//! Tests of nodes, child programs and command lines, over an outside in memory.
 //!
-//! They stand in a crate of their own, since a crate with tests is proved twice.
+//! They are in a crate of their own, because a crate with tests is proved twice.
 #![tactic(auto)]
 
 #[cfg(test)]

@@ -1,4 +1,4 @@
-//! The top call over an outside in memory.
+//! Runs of `bar_run` over an outside in memory, and checks of how they ended.
 use bar_cli::bar_run;
 use bar_outside::{MemFiles, MemLink, MemSink, MemSpawner};
 use std::alloc::{AllocError, Global};
@@ -21,7 +21,7 @@ pub struct Left {
     pub outside: Outside,
 }
 
-/// These files, a link that ends at once, no statuses of children, and outputs of which these writes fail.
+/// An outside of these files, a link that ends at once, no statuses of children, and outputs of which these writes fail.
 pub fn outside_of(
     alloc: Global,
     files: MemFiles,
@@ -37,7 +37,7 @@ pub fn outside_of(
     })
 }
 
-/// The words of a line that is written with blanks between them.
+/// The arguments in a line, which are separated by blanks.
 pub fn words_of(alloc: Global, line: &str) -> Result<Vec<String>, AllocError> {
     let mut words = Vec::new(alloc);
     for word in line.split(' ') {
@@ -46,7 +46,7 @@ pub fn words_of(alloc: Global, line: &str) -> Result<Vec<String>, AllocError> {
     Ok(words)
 }
 
-/// Does what a line says.
+/// Runs the command of a line.
 pub fn run(alloc: Global, line: &str, mut outside: Outside) -> Result<Left, AllocError> {
     let words = words_of(alloc, line)?;
     let status = bar_run(
@@ -61,19 +61,19 @@ pub fn run(alloc: Global, line: &str, mut outside: Outside) -> Result<Left, Allo
     Ok(Left { status, outside })
 }
 
-/// Checks how a run ended: its status, and what standard error has.
+/// Checks how a run ended: its status, and what it wrote to standard error.
 pub fn check_status(rt: &impl Abort, left: &Left, status: u8, err: &str) {
     assert_eq!(rt; left.status, status);
     assert_eq!(rt; left.outside.err.bytes(), err.as_bytes());
 }
 
-/// Checks how a run ended: its status, what it printed, and what standard error has.
+/// Checks how a run ended: its status, what it printed, and what it wrote to standard error.
 pub fn check_end(rt: &impl Abort, left: &Left, status: u8, out: &str, err: &str) {
     check_status(rt, left, status, err);
     assert_eq!(rt; left.outside.out.bytes(), out.as_bytes());
 }
 
-/// Checks what a file holds, where one that isn't there holds `none`.
+/// Checks what a file holds. A missing file counts as holding `none`.
 pub fn check_file(rt: &impl Abort, left: &Left, path: &str, bytes: &[u8]) {
     let held = left.outside.files.get(path).unwrap_or(b"none");
     assert_eq!(rt; held, bytes, "{path}");

@@ -1,4 +1,4 @@
-//! Files, sinks, links and spawners in memory.
+//! Tests of files, sinks, links and spawners in memory.
 use bar_outside::{
     ChildFault, Fault, FileFault, Files, Link, LinkFault, MemCall, MemFiles, MemLink, MemSink,
     MemSpawner, MemTaken, Place, Sink, SinkFault, Spawner, Taken, append_file, bind_link,

@@ -1,6 +1,6 @@
-//! Whole commands over files, links and outputs in memory. The expected numbers are worked out by hand from the rules.
+//! Tests of whole commands over files, links and outputs in memory. The expected numbers are worked out by hand from the rules.
 ghost use Rattle.std.specs.Prelude.{◌≡◌, true};
-ghost use Rattle.bar_outside.specs.MemTaken.{are_small};
+ghost use Rattle.bar_outside.specs.Code.MemTaken.{are_small};
 
 use crate::outcome::{Left, check_end, check_file, outside_of, run};
 use bar_outside::{MemFiles, MemLink, MemTaken, Sent};
@@ -29,7 +29,7 @@ fn prepared(alloc: Global, key: &str) -> Result<MemFiles, Fail> {
     Ok(files)
 }
 
-/// Adds so many ticks.
+/// Adds `count` ticks.
 fn add_ticks(list: &mut Vec<MemTaken>, count: u32) -> Result<(), AllocError>
     requires { are_small list.old.items ≡ true }
     ensures { are_small list.new.items ≡ true }
@@ -40,7 +40,7 @@ fn add_ticks(list: &mut Vec<MemTaken>, count: u32) -> Result<(), AllocError>
     Ok(())
 }
 
-/// Adds so many empty datagrams.
+/// Adds `count` empty datagrams.
 fn add_datagrams(alloc: Global, list: &mut Vec<MemTaken>, count: u32) -> Result<(), AllocError>
     requires { are_small list.old.items ≡ true }
     ensures { are_small list.new.items ≡ true }
@@ -51,7 +51,7 @@ fn add_datagrams(alloc: Global, list: &mut Vec<MemTaken>, count: u32) -> Result<
     Ok(())
 }
 
-/// A link of so many ticks, and then so many empty datagrams, of which these calls fail.
+/// A link that gives some ticks and then some empty datagrams, and of which these calls fail.
 fn link_of(alloc: Global, ticks: u32, datagrams: u32, fail: &[u64]) -> Result<MemLink, AllocError> {
     let mut list = Vec::new(alloc);
     add_ticks(&mut list, ticks)?;
@@ -59,7 +59,7 @@ fn link_of(alloc: Global, ticks: u32, datagrams: u32, fail: &[u64]) -> Result<Me
     Ok(MemLink::make(alloc, list, fail.to_vec(alloc)?))
 }
 
-/// A run of a line with these files over this link.
+/// Runs the command of a line with these files over this link.
 fn run_over(alloc: Global, line: &str, files: MemFiles, link: MemLink) -> Result<Left, AllocError> {
     let mut outside = outside_of(alloc, files, &[], &[])?;
     outside.link = link;
@@ -82,7 +82,7 @@ fn check_sent_twice(rt: &impl Abort, sent: &[Sent]) {
     assert!(rt; one.bytes.starts_with(&[0xba, 0x47, 1, 3]));
 }
 
-/// The third send fails, which is the seventh call of the link. What was recorded up to there has no end, and isn't replayed.
+/// The third send, which is the seventh call of the link, fails. The recording up to there has no end, and isn't replayed.
 #[test]
 fn a_failed_call_of_the_link_stops_a_peer(rt: HostRuntime) -> Result<(), Fail> {
     let alloc = rt.alloc();
@@ -106,7 +106,7 @@ fn a_failed_call_of_the_link_stops_a_peer(rt: HostRuntime) -> Result<(), Fail> {
     Ok(())
 }
 
-/// After 65,536 datagrams in a row a tick is taken that didn't come.
+/// After 65,536 datagrams in a row a tick is inserted that the link didn't give.
 #[test]
 fn a_tick_is_taken_among_many_datagrams(rt: HostRuntime) -> Result<(), Fail> {
     let alloc = rt.alloc();

@@ -1,4 +1,4 @@
-//! Sessions over files, sinks and a spawner in memory.
+//! Tests of sessions over files, sinks and a spawner in memory.
 use crate::outcome::{Left, check_end, outside_of, run};
 use bar_outside::{MemFiles, MemSpawner};
 use bar_samples::sessions::session;

@@ -33,7 +33,7 @@ use Rattle.bar_progress.proofs.Mirrors.{IsOfTwo, Mirrors, Sides, delivered-first
 use Rattle.bar_progress.proofs.Pairs.{fair-far, fair-near, hears-far, hears-near, near, side_of, talk_of}
 use Rattle.bar_progress.proofs.Saying.{Known, key_as, said_out}
 
--- the CASE of the one side was sent first
+-- the CASE of one side was sent first
 module _ (mu mv : Member) (x : Exchange) (ru rv : Role) (su : Side mu x ru rv mv.party) (sv : Side mv x rv ru mu.party) (terms : Terms) (ku kv : Knowledge) (zu gu zv gv : List ℕ)
     (hu : HasCased mu ku x ru rv mv.party terms (case_to mv x ru mu.party terms zu gu)) (hv : HasCased mv kv x rv ru mu.party terms (case_to mu x rv mv.party terms zv gv)) where
   abbrev pub cu : Datagram
@@ -183,7 +183,7 @@ module _ (p : Pair) (first : Bool) (apart : p.first ≡ p.second → ⊥) (x : E
       ap (hears p) e5 ∙ hears-near p first ku3 kv4 dyv ([]) _ apart (step6 u v x (side_of first) (side_of (not first)) su sv terms ku kv zu gu zv gv hu hv w6) in
       e6
 
--- so both have what was agreed
+-- hence both have what was agreed
 pub talk-complete : (p : Pair) (first : Bool) → (apart : p.first ≡ p.second → ⊥) → (x : Exchange)
     → (su : Side (near p first) x (side_of first) (side_of (not first)) (near p (not first)).party)
     → (sv : Side (near p (not first)) x (side_of (not first)) (side_of first) (near p first).party) → (terms : Terms) (ku kv : Knowledge) (zu gu zv gv : List ℕ)
@@ -213,7 +213,7 @@ talk-complete p false apart x su sv terms ku kv zu gu zv gv hu hv t e fair equal
 
 -- ---- in a world
 
--- the first of what is on its way
+-- the first datagram on its way
 abbrev pub head_of : Datagram → List (ℕ × Datagram) → Datagram
 head_of d [] = d
 head_of d (s ∷ rest) = s.1

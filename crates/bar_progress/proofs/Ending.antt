@@ -31,7 +31,7 @@ use Rattle.bar_progress.proofs.Saying.{admits, key-by, key_as, not-yet, now-firs
 
 -- ---- sides
 
--- A member stands on one side of an exchange, and its partner on the other.
+-- A member is on one side of an exchange, and its partner on the other.
 pub record Side (me : Member) (x : Exchange) (mine theirs : Role) (partner : ℕ) : Type 0 where
   pub role : role_of me x ≡ mine
   pub other : other_role mine ≡ theirs
@@ -40,7 +40,7 @@ pub record Side (me : Member) (x : Exchange) (mine theirs : Role) (partner : ℕ
   pub own : exchange_by x.round x.kind mine me.party partner ≡ x
   pub named : exchange_by x.round x.kind theirs partner me.party ≡ x
 
--- what the side itself says is told by what it said, and what its partner's says by what it heard
+-- what the side says is read from what it said, and what its partner's side says from what it heard
 pub own-told : (me : Member) (k : Knowledge) (kind : Kind) (x : Exchange) (mine theirs : Role) (partner : ℕ) → Side me x mine theirs partner → first_on me k kind x mine ≡ k.said kind x mine
 own-told me k kind x mine theirs partner s = rw (s.role, same_role_refl mine) refl
 
@@ -57,7 +57,7 @@ other-told me k kind x mine theirs partner s = go mine theirs s.role s.other
 pub across : (me : Member) (x : Exchange) (mine theirs : Role) (partner : ℕ) → Side me x mine theirs partner → party_on x theirs ≡ partner
 across me x mine theirs partner s = ap (party_on x) (sym (ap other_role s.role ∙ s.other)) ∙ s.over
 
--- It said its CASE, by complete terms, has heard nothing that comes after them from its partner, with which it trades, and is in time.
+-- It said its CASE with complete terms, has heard nothing that follows them from its partner, with which it trades, and is in time.
 pub record HasCased (me : Member) (k : Knowledge) (x : Exchange) (mine theirs : Role) (partner : ℕ) (terms : Terms) (c : Datagram) : Type 0 where
   pub trading : k.is_announced partner ≡ false
   pub answering : is_in_time me.session k kinds.Case x.round ≡ true
@@ -115,7 +115,7 @@ totals-are me k x mine theirs a b c r o e f g =
     ∙ ap (λ z. sizes me (k.said kinds.Case x mine) (k.heard kinds.Case x z) (k.said kinds.Key x mine)) o
     ∙ (λ i. sizes me (e i) (f i) (g i))
 
--- ---- the side's way
+-- ---- the steps of the side
 
 module _ (me : Member) (x : Exchange) (mine theirs : Role) (partner : ℕ) (s : Side me x mine theirs partner) (k : Knowledge) (terms : Terms) (c : Datagram)
     (r : HasCased me k x mine theirs partner terms c) (cipher signature : List ℕ) where

@@ -1,4 +1,4 @@
--- A balanced exchange goes on, whatever moves stand between its deliveries.
+-- A balanced exchange continues, whatever moves occur between its deliveries.
 use Rattle.std.proofs.Common.{◌≡◌, ◌∙◌, inl, inr, ℕ, ◌<◌, ◌≤◌, Bool, true, false, not, List, [], ◌∷◌, ◌++◌, length, refl, sym, ap, subst, append_assoc, arith, ◌+◌}
 use Rattle.std.specs.Prelude.{Option, Some, None, is_some, slice_get, option_and_then, option_map, if◌then◌else◌}
 use Rattle.std.specs.Bool.{then_some}
@@ -581,7 +581,7 @@ module _ (knows : StepIsKnown) (peers : PeersRun) (grow : PeersGrow) (accepts : 
   trusted-b : (ms : List Move) → IsTrustedPeer trusted (after setup ms) b (log-b ms)
   trusted-b ms = record { low = r.way.answers.low; trust = r.way.answers.trust; log_is = happening.log-is knows peers grow accepts ruled members setup is b r.way.answers.low present-b ms }
 
-  -- what is held of some updates that are alive is held later
+  -- updates that are held are still held later, if they are alive
   holds-later : (log before : Log) (us : List UpdateId) → IsLater log before → Holds setup before us → Holds setup log us
   holds-later log before us more h u c alive =
       let past : round_now before ≤ round_now log = round-later log before more in
@@ -601,7 +601,7 @@ module _ (knows : StepIsKnown) (peers : PeersRun) (grow : PeersGrow) (accepts : 
       subst (λ (l : List UpdateId). Holds setup (log-b ms) l) (λ i. promised_updates setup.session.cap (c.2 i) (c.3 i))
       (gains opens setup trusted ms f b a (log-b ms) (log-a ms) (trusted-b ms) (trusted-a ms) x Initiator refl h.key-b.0 h.key-b.1 c.0 c.1)
 
-  -- after the last part both have traded, and nothing that comes later undoes it
+  -- after the last part both have traded, and nothing later undoes it
   have-traded : (ms later : List Move) → ForgesNothing setup trusted ms → AllHeard ms → HaveTraded setup x terms (log-a (ms ++ later)) (log-b (ms ++ later))
   unfolding more-a more-b
   have-traded ms later f h = record {
@@ -627,7 +627,7 @@ module _ (knows : StepIsKnown) (peers : PeersRun) (grow : PeersGrow) (accepts : 
   abbrev Goes : List Part → List Move → Type 0
   Goes rest ms = GoesOn setup trusted x commits Ends rest ms
 
-  -- who takes it in time is ready
+  -- a party that takes it in time is ready
   ready-a : (kind : Kind) (ms : List Move) (m : Move) (d : Datagram) → IsTaken setup ms m a d x kind commits → Ready-a kind ms
   ready-a kind ms m d y =
       subst (λ l. Ready (member setup a) l kind) (some-equal y.log (log-a ms) (sym y.log_is ∙ happening.log-is knows peers grow accepts ruled members setup is a r.way.asks.low present-a ms))

@@ -1,4 +1,4 @@
--- What moves make of one peer: what it hears, when it heard it, and what it sent for it.
+-- What moves do to one peer: what it hears, when it heard it, and what it sent for it.
 use Rattle.std.proofs.Common.{◌≡◌, ◌∙◌, ◌⊎◌, inl, inr, ℕ, zero, suc, ◌<◌, ◌≤◌, Bool, true, false, List, [], ◌∷◌, ◌++◌, refl, sym, ap, subst, eqb, append_assoc, append-nil}
 use Rattle.std.specs.Prelude.{Option, Some, None, is_some, slice_get, if◌then◌else◌}
 use Rattle.std.specs.List.{AllByRecursion}
@@ -55,7 +55,7 @@ join a b c f g = record { new = f.new ++ g.new; split = f.split ∙ ap (λ (l : 
 
 -- ---- the pool
 
--- what was sent stays
+-- what was sent remains in the pool
 abbrev Grows : World → World → Type 0
 Grows w v = (more : List (ℕ × List ℕ)) × (v.packets ≡ w.packets ++ more)
 
@@ -84,7 +84,7 @@ packet-stays setup ms ns n s e =
     let g = run-grows setup (after setup ms) ns in
     ap (λ (w : World). slice_get w.packets n) (run-on setup (initial setup) ms ns) ∙ ap (λ l. slice_get l n) g.1 ∙ front-get (after setup ms).packets g.0 n s e
 
--- ---- a move gives one input at most
+-- ---- a move gives at most one input
 
 given-cases : (p q : ℕ) (i : Input) → (given_to p q i ≡ []) ⊎ ((j : Input) × (given_to p q i ≡ j ∷ []))
 given-cases p q i = go (eqb q p)
@@ -126,7 +126,7 @@ module _ (knows : StepIsKnown) (peers : PeersRun) (grow : PeersGrow) (accepts : 
   abbrev me : Member
   me = member setup p
 
-  -- what it has and knows after some moves
+  -- what it holds and knows after some moves
   abbrev pub log_at : List Move → Log
   log_at ms = log_after me [] (inputs_of setup ms p)
 
@@ -155,7 +155,7 @@ module _ (knows : StepIsKnown) (peers : PeersRun) (grow : PeersGrow) (accepts : 
   pub knows-moved : (ms : List Move) (m : Move) (i : Input) → input_at (after setup ms) p m ≡ i ∷ [] → knows_at (ms ++ m ∷ []) ≡ (step_known me (knows_at ms) i).state
   knows-moved ms m i e = ap (known me) (moved ms m i e) ∙ ap (λ (o : Outcome Knowledge). o.state) (knows me (log_at ms) i)
 
-  -- ---- what was found stays
+  -- ---- what was found remains found
 
   pub heard-stays : (ms ns : List Move) (kind : Kind) (x : Exchange) (role : Role) (d : Datagram) → (knows_at ms).heard kind x role ≡ Some d → (knows_at (ms ++ ns)).heard kind x role ≡ Some d
   heard-stays ms ns kind x role d e = find-later _ (log_at (ms ++ ns)) (log_at ms) d (later ms ns) e
@@ -235,14 +235,14 @@ module _ (knows : StepIsKnown) (peers : PeersRun) (grow : PeersGrow) (accepts : 
       → HeardAt start (start ++ more) kind x role
   heard-at start more kind x role d none some = moment more start (start ++ more) kind x role d refl none some
 
-  -- it is what is heard ever after
+  -- it is the datagram that is heard ever after
   pub heard-then : (start ms : List Move) (kind : Kind) (x : Exchange) (role : Role) (h : HeardAt start ms kind x role) → (knows_at ms).heard kind x role ≡ Some h.now.d
   heard-then start ms kind x role h =
       subst (λ z. (knows_at z).heard kind x role ≡ Some h.now.d) (append_assoc h.before (h.move ∷ []) h.rest ∙ sym h.split)
       (heard-stays (h.before ++ h.move ∷ []) h.rest kind x role h.now.d
       (ap (λ (k : Knowledge). k.heard kind x role) (state-then start ms kind x role h) ∙ answer-hears me (knows_at h.before) h.now.d (new_evidence me (knows_at h.before) h.now.d) kind x role h.none h.now.of))
 
-  -- so is what is revealed
+  -- the same holds for what is revealed
   pub revealed-then : (start ms : List Move) (kind : Kind) (x y : Exchange) (role : Role) (h : HeardAt start ms kind x role) (a : List ℕ × List UpdateId) → (with_heard me h.now.d (knows_at h.before)).revealed y ≡ Some a
       → (knows_at ms).revealed y ≡ Some a
   revealed-then start ms kind x y role h a e =
@@ -252,7 +252,7 @@ module _ (knows : StepIsKnown) (peers : PeersRun) (grow : PeersGrow) (accepts : 
 
   -- ---- what was sent
 
-  -- The packet is in the pool, as it was sent by this peer; what is signed stands in its log.
+  -- The packet is in the pool, as this peer sent it; if it is signed, it is in the peer's log.
   pub record SentIn (ms : List Move) (to : ℕ) (d : Datagram) : Type 0 where
     pub number : ℕ
     pub packet : slice_get (after setup ms).packets number ≡ Some (to, datagram_bytes setup.session d)
@@ -307,7 +307,7 @@ module _ (knows : StepIsKnown) (peers : PeersRun) (grow : PeersGrow) (accepts : 
       knows-moved ms m (event.Datagram (datagram_bytes setup.session d)) brings
       ∙ ap (λ (o : Outcome Knowledge). o.state) (answer-is me (knows_at ms) (datagram_bytes setup.session d) d going reads admitted)
 
-  -- what it is given is heard, or one like it was
+  -- what it is given is heard, or one like it was heard before
   pub arrives : (ms : List Move) (m : Move) (kind : Kind) (x : Exchange) (role : Role) (d : Datagram) → input_at (after setup ms) p m ≡ event.Datagram (datagram_bytes setup.session d) ∷ []
       → datagram_of setup.session (datagram_bytes setup.session d) ≡ Some d → is_of kind x role d.message ≡ true → ticks (log_at ms) < last_tick setup.session
       → ((knows_at ms).heard kind x role ≡ None → is_admitted me (knows_at ms) d ≡ true) → (e : Datagram) × ((knows_at (ms ++ m ∷ [])).heard kind x role ≡ Some e)

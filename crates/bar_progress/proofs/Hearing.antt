@@ -85,7 +85,7 @@ module _ (me : Member) where
   terms-kept k q v x Balanced = refl
   terms-kept k q v x Push = refl
 
-  -- evidence is of no account to admission
+  -- evidence doesn't affect admission
   kept-admits : (k : Knowledge) (q : ℕ) (v : List (List ℕ)) (d : Datagram) (b : Body) → is_admitted me (with_kept q v k) (with_body d b) ≡ is_admitted me k (with_body d b)
   unfolding is_admitted
   kept-admits k q v d (Manifest r ds) = refl
@@ -120,11 +120,11 @@ module _ (me : Member) where
   first-new None false d e s = cc
   first-new (Some c) false d e s = cc
 
-  -- a message of no exchange is of none
+  -- a message of no exchange isn't of this one
   placeless : (d : Datagram) (kind : Kind) (x : Exchange) (role : Role) → part_of d.message.body ≡ None → is_of kind x role d.message ≡ true → ⊥
   placeless d kind x role none of = unheld (part_of d.message.body) none (ap is_some (is_of-is kind x role d.message of).part)
 
-  -- what a datagram adds to what is heard is itself
+  -- a datagram adds only itself to what is heard
   learned-new : (d : Datagram) (k : Knowledge) (b : Body) (kind : Kind) (x : Exchange) (role : Role) → k.heard kind x role ≡ None → is_some ((learned me d k b).heard kind x role) ≡ true → is_of kind x role d.message ≡ true
   learned-new d k (Manifest r ds) kind x role e s = absurd (unheld _ e s)
   learned-new d k (Block u c) kind x role e s = absurd (unheld _ e s)
@@ -195,7 +195,7 @@ module _ (me : Member) where
       go false e event.Tick s = absurd (unheld _ none (subst (λ (f : Firsts). is_some (f kind x role) ≡ true) (all-heard (orders_at_tick me (with_tick me k)) (begun (with_tick me k))) s))
       go false e (event.Datagram bytes) s = by bytes (datagram_of me.session bytes) refl (leb-false (last_tick me.session) k.ticks e) s
 
-  -- ---- what stays among it
+  -- ---- what remains in it
 
   sent-kept : (s : ℕ × Datagram) → IsKept (minds me) (λ out. IsAmong s out.sends)
   sent-kept s = record { sent = λ out to d h. among-front s out.sends ((to, d) ∷ []) h; said = λ out d h. h }
@@ -246,7 +246,7 @@ module _ (me : Member) where
       IsAmong (partner_in me y, unsigned (record { from = me.party; to = partner_in me y; body = KeyReq y.round y.kind (role_of me y) })) (answers k (with_body d (Case c)) o).sends
   case-asks k d c o = report-still _ _ d.message.from o (inl refl)
 
-  -- what is known with what was heard, besides evidence
+  -- what is known with what was heard, apart from evidence
   said-evidence : (k : Knowledge) (q : ℕ) (o : Option (List (List ℕ))) → ◌≡◌ {A = Firsts} (machine.with_evidence (minds me) k q o).said k.said
   said-evidence k q None = refl
   said-evidence k q (Some v) = refl
@@ -294,7 +294,7 @@ module _ (me : Member) where
       by Push (Evidence ds) = refl
       by Push (Evict r ps) = refl
 
-  -- a briefcase is given, where the terms are complete
+  -- a briefcase is given, if the terms are complete
   gives-case : (out : Known) (y : Exchange) (role : Role) (to : ℕ) (terms : Terms) → role_of me y ≡ role → partner_in me y ≡ to → terms_of me out.state y ≡ Some terms
       → ((e : Datagram) → out.state.said kinds.Case y role ≡ Some e → is_of kinds.Case y role e.message ≡ true)
       → is_of kinds.Case y role (record { from = me.party; to = to; body = case_body me out.state y terms }) ≡ true → Sends (machine.perform (minds me) me out (GiveCase y)).sends to kinds.Case y role
@@ -403,7 +403,7 @@ module _ (me : Member) where
       kk : Knowledge
       kk = machine.with_evidence (minds me) k d.message.from o
 
-  -- ---- what is revealed stays
+  -- ---- what is revealed remains so
 
   module _ (x : Exchange) (a : List ℕ × List UpdateId) where
     abbrev Reveals : Knowledge → Type 0

@@ -1,4 +1,4 @@
--- One asks another peer than its partner, and is denounced for it.
+-- A peer asks another peer than its partner, and is denounced for it.
 use Rattle.std.proofs.Common.{◌≡◌, ◌≢◌, ◌∙◌, ℕ, ◌*◌, ◌<◌, ◌≤◌, Bool, true, false, ◌&&◌, not, List, [], ◌∷◌, replicate, refl, sym, ap, subst, eqb, cond, arith}
 use Rattle.std.specs.Prelude.{Option, Some, None, nat_le, option_and_then, option_map, slice_get, if◌then◌else◌}
 use Rattle.std.specs.Bool.{then_some}
@@ -56,7 +56,7 @@ chosen setup = partner_of setup.session seed Balanced 1
 abbrev others : ℕ → Bool
 others p = not (eqb p 1)
 
--- a datagram leaves the broadcaster's time as it is
+-- a datagram leaves the broadcaster's time unchanged
 caster-time : (me : Member) (stream : List ℕ) (bytes : List ℕ) → ticks (caster_step me stream [] (event.Datagram bytes)).state ≡ 0
 unfolding caster_step
 caster-time me stream bytes = go (nat_le (last_tick me.session) 0)

@@ -65,7 +65,7 @@ fair-one p ka kb d rest f = subst (IsFair_by p (record { mine = ka; theirs = kb;
 pub fair-two : (p : Pair) (ka kb : Knowledge) (d : Datagram) (rest : List (ℕ × Datagram)) → (p.first ≡ p.second → ⊥) → IsFair p (record { mine = ka; theirs = kb; way = (p.second, d) ∷ rest }) → IsWelcome (two p) kb d
 fair-two p ka kb d rest apart f = subst (IsFair_by p (record { mine = ka; theirs = kb; way = (p.second, d) ∷ rest }) d) (ne_eqb p.second p.first (λ z. apart (sym z))) f
 
--- ---- the same of the one peer and the other, whichever is the first
+-- ---- the same for either peer, whichever is the first
 
 abbrev pub near : Pair → Bool → Member
 near p first =

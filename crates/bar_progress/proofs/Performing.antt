@@ -1,4 +1,4 @@
--- What orders keep, as they send datagrams and sign new ones, over logs or over what is known.
+-- What orders preserve, as they send datagrams and sign new ones, over logs or over what is known.
 use Rattle.std.proofs.Common.{ℕ, List, [], ◌∷◌}
 use Rattle.std.specs.Prelude.{Option, Some, None}
 use Rattle.bar_window.specs.declared.exchange.Exchange.{Exchange}
@@ -12,7 +12,7 @@ use Rattle.bar_rules.specs.Peer.Signing.{signed}
 use Rattle.bar_rules.specs.Runs.{Outcome, sending}
 use Rattle.bar_rules.specs.Values.{unsigned}
 
--- It holds when one datagram more is sent, and when one more is signed.
+-- The property is preserved when one more datagram is sent, and when one more is signed.
 pub record IsKept {S : Type 0} (w : Keeping S) (P : Outcome S → Type 0) : Type 0 where
   pub sent : (out : Outcome S) (to : ℕ) (d : Datagram) → P out → P (sending out to d)
   pub said : (out : Outcome S) (d : Datagram) → P out → P (record out { state = w.adds (Said d) out.state })

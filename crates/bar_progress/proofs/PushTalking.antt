@@ -208,7 +208,7 @@ module _ (p : Pair) (t : Talk) (young aged : List UpdateId) (c : CanPush p t you
 
   -- ---- the talk
 
-  -- what both promise is as long
+  -- what both promise is equally long
   pub even : PromisesEqual → length (promise p.session.cap terms Initiator) ≡ length (promise p.session.cap terms Responder)
   even equal = equal p.session.cap terms (and_from _ _ (and_parts _ _ (and_parts _ _ valid).0).1 fits)
 

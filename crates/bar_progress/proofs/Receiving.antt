@@ -99,7 +99,7 @@ divulge-of x m e = let o = is_of-is kinds.Divulge x Initiator m e in go m.body r
         record { round = s; nonce = nonce; ha = ha; body = h; exchange = ap (λ (z : ℕ × XKind × Role). exchange_by z.0 z.1 Initiator m.from m.to) same ∙ f }
     go b h n r k e f = absurd (other-kind b kinds.Divulge refl n)
 
--- who heard a DIVULGE knows what the initiator commits to
+-- a peer that heard a DIVULGE knows what the initiator commits to
 pub heard-reveals : (me : Member) (log : Log) (x : Exchange) (d : Datagram) → first_heard (is_of kinds.Divulge x Initiator) log ≡ Some d → (a : List ℕ × List UpdateId) × (revealed me log x ≡ Some a)
 heard-reveals me log x d e =
     let was = first_heard-was (is_of kinds.Divulge x Initiator) log d e in
@@ -156,7 +156,7 @@ module _ (knows : StepIsKnown) (peers : PeersRun) (grow : PeersGrow) (accepts : 
 
   -- ---- what is admitted
 
-  -- what the other side sent, of this kind, and the peer takes it in time
+  -- what the other side sent, of this kind, if the peer takes it in time
   pub record Comes (ms : List Move) (kind : Kind) (d : Datagram) : Type 0 where
     pub of : is_of kind x far d.message ≡ true
     pub signed : is_signed d.message.body ≡ true → is_signed_by setup.session d ≡ true
@@ -272,7 +272,7 @@ module _ (knows : StepIsKnown) (peers : PeersRun) (grow : PeersGrow) (accepts : 
   pub sent-more : (ms ns : List Move) (kind : Kind) → HasSent ms kind → HasSent (ms ++ ns) kind
   sent-more ms ns kind s = record { d = s.d; sent = happening.sent-stays knows peers grow accepts ruled members setup is p low high ms ns q s.d s.sent; of = s.of }
 
-  -- what is signed of this side and was sent, is said
+  -- what is signed of this side and was sent is said
   pub sent-is-said : (ms : List Move) (kind : Kind) (s : HasSent ms kind) → is_signed s.d.message.body ≡ true → has_said_of (knows_at ms) kind x role ≡ true
   sent-is-said ms kind s e = said-found (is_of kind x role) (log_at ms) s.d (was-said (log_at ms) s.d (s.sent.said e)) s.of
 

@@ -57,7 +57,7 @@ request-is : (x : Exchange) (m : Message) → is_of kinds.Request x Initiator m 
 request-is x m e = let w = is_of-is kinds.Request x Initiator m e in request-by x m w.round w.sort m.body refl w.number w.part w.exchange
 
 module _ (me : Member) (to round : ℕ) where
-  -- what was said and sent stays so
+  -- what was said and sent remains so
   stays : IsKept (logs me) (λ out. MakesRequest out to round)
   stays = record {
     sent = λ out q d h. record {
@@ -115,7 +115,7 @@ module _ (me : Member) (to round : ℕ) where
 pub when-has : (b : Bool) (os : List Order) (o : Order) → b ≡ true → Contains os o → Contains (orders_when b os) o
 when-has b os o e c = subst (λ z. Contains (orders_when z os) o) (sym e) c
 
--- the orders of a round's first slot have it
+-- the orders of a round's first slot contain it
 tick-asks : (me : Member) (k : Knowledge) → slot_after k.ticks ≡ 0 → 1 ≤ this_round k → this_round k ≤ me.session.shape.rounds → k.is_announced (partner_then me (this_round k)) ≡ false
     → owes me k (partner_then me (this_round k)) ≡ false → Contains (orders_at_tick me k) (Ask (asking me (this_round k) Balanced (partner_then me (this_round k))))
 tick-asks me k slot low high trading unowed =

@@ -1,4 +1,4 @@
--- From the report of evidence to the silence.
+-- From the report of evidence to the end of all trade with its party.
 use Rattle.std.proofs.Common.{◌≡◌, ◌∙◌, ℕ, zero, suc, ◌+◌, ◌<◌, Bool, true, List, [], ◌∷◌, ◌++◌, length, map, refl, sym, ap, subst, cond, arith}
 use Rattle.std.specs.Prelude.{Option, Some, None, Contains, is_none, slice_get, slice_index_or}
 use Rattle.std.specs.List.{AllByRecursion}
@@ -42,7 +42,7 @@ get-front [] ys k x e = cc
 get-front (y ∷ xs) ys zero x e = e
 get-front (y ∷ xs) ys (suc k) x e = get-front xs ys k x e
 
--- a packet stays in the pool
+-- a packet remains in the pool
 module _ (setup : Setup) (n : ℕ) (packet : ℕ × List ℕ) where
   takes-stays : (w : World) (p : ℕ) (i : Input) → slice_get w.packets n ≡ Some packet → slice_get (takes setup w p i).packets n ≡ Some packet
   takes-stays w p i e = go (slice_get w.logs p)
@@ -101,7 +101,7 @@ module _ (evicts : ReportsEvict) (sends : NoticesAreSent) (accuses : NobodyIsAcc
   abbrev out : Out
   out = caster_step caster setup.stream r.caster event.Tick
 
-  -- the peer is served, as nobody that is trusted is evicted
+  -- the peer is served, as no trusted peer is evicted
   serves : Contains (served setup.session r.caster) peer
   serves =
       subst (λ (qs : List ℕ). Contains qs peer) (map-id (served setup.session r.caster))
@@ -142,7 +142,7 @@ module _ (evicts : ReportsEvict) (sends : NoticesAreSent) (accuses : NobodyIsAcc
   caster-told : slice_get (after setup told).logs 0 ≡ Some out.state
   caster-told = ap (λ (w : World). slice_get w.logs 0) ticked ∙ set-same (after setup before).logs 0 r.caster out.state r.caster_is
 
-  -- delivered in time it announces the party
+  -- if it is delivered in time, it announces the party
   announces : NoticesArrive → PartiesGrow → (more later : List Move) (end : Log) → AwaitsNotice setup trusted (told ++ more) peer round
       → slice_get (after setup ((told ++ more) ++ Deliver number ∷ later)).logs peer ≡ Some end → is_announced end party ≡ true
   announces arrive grow more later end awaits at =

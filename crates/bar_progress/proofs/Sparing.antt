@@ -39,7 +39,7 @@ use Rattle.bar_laws.proofs.Logs.{again-all, all-both, all-flat, fits-back, heard
 use Rattle.bar_laws.proofs.Runs.{evidence-obedient, repeated-heard}
 use Rattle.bar_progress.specs.Evictions.{AnnouncedAreIgnored, AnnouncedGetNothing, IsSpared}
 
--- the party to which an order's datagram goes
+-- the party to which an order's datagram is sent
 abbrev receiver : Member → Order → ℕ
 receiver me (Ask x) = partner_in me x
 receiver me (Answer x) = partner_in me x
@@ -138,7 +138,7 @@ module _ (me : Member) (party : ℕ) where
 
   -- ---- at a datagram
 
-  -- what answers another party's datagram goes to that party
+  -- an answer to another party's datagram is sent to that party
   module _ (k : Knowledge) (is_new : Bool) (from to : ℕ) (other : from ≢ party) where
     abbrev AreOthers : Body → Type 0
     AreOthers body = (p : ℕ × XKind × Role) → part_of body ≡ Some p → (to ≡ me.party) × (from ≡ me.party → ⊥)

@@ -277,7 +277,7 @@ module _ (keys anchors : List (List ℕ)) (s0 s1 s2 stream : List ℕ) where
           step-takes (member setup p) [] (datagram_bytes s manifest) manifest (omega arith) a.reads
           ∙ ap (by-admission (member setup p) [] manifest) (manifest-admitted p a)
 
-      -- a block that stands in the manifest
+      -- a block that is in the manifest
       block-admitted : (p i : ℕ) (b : List ℕ) → digest_at (slice_get (manifest_list s stream 1) i) ≡ Known (sha256 b)
           → is_admitted (member setup p) (known (member setup p) (Heard manifest ∷ [])) (block_to p (record { round = 1; index = i }) b) ≡ true
       unfolding is_admitted
@@ -400,7 +400,7 @@ module _ (keys anchors : List (List ℕ)) (s0 s1 s2 stream : List ℕ) where
         worth = refl;
       }
 
-      -- a packet of the first peer's is under way
+      -- a packet of the first peer's is on its way
       under : PlainMovesForgeNothing → (number : ℕ) (d : Datagram) → slice_get w7.packets number ≡ Some (2, datagram_bytes s d) → IsSentBy setup 1 (2, d)
           → IsUnderWay setup all_trusted moves number 1 2
       under plain number d packet sent = record {
@@ -458,7 +458,7 @@ module _ (keys anchors : List (List ℕ)) (s0 s1 s2 stream : List ℕ) where
 abbrev stream : List ℕ
 stream = replicate 1023 0
 
--- the secrets and the stream are of no account
+-- the secrets and the stream don't matter
 module _ (setups : SetupsExist) (plain : PlainMovesForgeNothing) (accepted : StepIsAccepted) (whole : FanoutsAreWhole) where
   abbrev found : SetupOf (small ([] ∷ [] ∷ [] ∷ []) ([] ∷ [] ∷ [])) ([] ∷ [] ∷ [] ∷ []) stream
   found = setups (small ([] ∷ [] ∷ [] ∷ []) ([] ∷ [] ∷ [])) ([] ∷ [] ∷ [] ∷ []) stream small-is refl

@@ -1,4 +1,4 @@
--- A balanced exchange goes on whatever stands between its deliveries.
+-- A balanced exchange continues, whatever moves occur between its deliveries.
 use Rattle.std.specs.Prelude.{◌≡◌, ℕ, ◌<◌, Bool, true, List, [], ◌∷◌, ◌++◌, Some, slice_get}
 use Rattle.bar_session.specs.Time.{last_tick}
 use Rattle.bar_window.specs.Exchange.{other_role, party_on}
@@ -48,9 +48,9 @@ PacketsAreGiven =
     (setup : Setup) (moves : List Move) (x : Exchange) (part : Part) → (sent : IsSent setup moves x part)
     → input_at (after setup moves) (receiver x part) (Deliver sent.number) ≡ event.Datagram (datagram_bytes setup.session sent.d) ∷ []
 
--- The move gives a peer the bytes of a datagram, by a delivery or from whoever has them, and the peer takes it in time: before its last
--- tick, and within the deadline of its kind. And before a DIVULGE nobody has revealed to the peer another nonce or history than those that
--- the REQUEST commits to, which takes two openings of one commitment.
+-- The move gives a peer the bytes of a datagram, by a delivery or from any party that has them. The peer takes it in time: before its last
+-- tick, and within the deadline of its kind. Before a DIVULGE, nobody has revealed to the peer another nonce or history than those that the
+-- REQUEST commits to, which would need two openings of one commitment.
 pub record IsTaken (setup : Setup) (moves : List Move) (move : Move) (peer : ℕ) (d : Datagram) (x : Exchange) (kind : Kind)
     (commits : List ℕ × List UpdateId) : Type 0 where
   pub brings : input_at (after setup moves) peer move ≡ event.Datagram (datagram_bytes setup.session d) ∷ []
@@ -60,8 +60,8 @@ pub record IsTaken (setup : Setup) (moves : List Move) (move : Move) (peer : ℕ
   pub in_time : is_in_time setup.session (known (member setup peer) log) kind x.round ≡ true
   pub bound : kind ≡ Divulge → (a : List ℕ × List UpdateId) → revealed (member setup peer) log x ≡ Some a → a ≡ commits
 
--- Whatever moves come between that forge nothing, the next of these parts has been sent, and once the receiver takes it in time, it goes on
--- so with those that follow; after the last part this end is reached.
+-- Whatever unforged moves occur in between, the next of these parts has been sent. Once the receiver takes it in time, the same holds for
+-- the parts that follow. After the last part this end is reached.
 abbrev pub GoesOn : Setup → (ℕ → Bool) → Exchange → List ℕ × List UpdateId → (List Move → Type 0) → List Part → List Move → Type 0
 GoesOn setup trusted x commits Ends [] moves = Ends moves
 GoesOn setup trusted x commits Ends (part ∷ rest) moves =
@@ -70,13 +70,13 @@ GoesOn setup trusted x commits Ends (part ∷ rest) moves =
     × ((move : Move) → IsTaken setup (moves ++ between) move (receiver x part) sent.d x part.0 commits
     → GoesOn setup trusted x commits Ends rest ((moves ++ between) ++ move ∷ []))
 
--- both have traded, whatever moves come after: what is forged later is of no account
+-- Both have traded, whatever moves follow; later forgeries make no difference.
 abbrev pub HaveTradedForGood : Setup → (ℕ → Bool) → ℕ → ℕ → ℕ → Terms → List Move → Type 0
 HaveTradedForGood setup trusted a b round terms moves =
     ForgesNothing setup trusted moves → (later : List Move) (mine theirs : Log) → slice_get (after setup (moves ++ later)).logs a ≡ Some mine
     → slice_get (after setup (moves ++ later)).logs b ≡ Some theirs → HaveTraded setup (trade_in setup a b round) terms mine theirs
 
--- Two trusted peers can trade, and the REQUEST is delivered: then the exchange goes on to its end.
+-- If two trusted peers can trade, and the REQUEST is delivered, then the exchange continues to its end.
 abbrev pub TradesGoOn : Type 0
 TradesGoOn =
     (setup : Setup) (trusted : ℕ → Bool) (moves : List Move) (request a b round : ℕ) (nonce : List ℕ) (ha : List UpdateId)

@@ -10,7 +10,7 @@ use Rattle.bar_laws.specs.Parties.{after}
 use Rattle.bar_progress.specs.Pushing.{CanPush, offer_terms_then, push}
 use Rattle.bar_progress.specs.Trades.{HaveTraded, IsUnderWay, delivering, pair_in, talk_in}
 
--- The QUERY of a push is under way between two that can trade.
+-- The QUERY of a push is on its way between two trusted peers that can push to each other.
 pub record BeginsPush (setup : Setup) (trusted : ℕ → Bool) (moves : List Move) (query a b round : ℕ)
     (young aged : List UpdateId) : Type 0 where
   pub way : IsUnderWay setup trusted moves query a b

@@ -1,4 +1,4 @@
--- A whole push between two obedient peers, over what they know alone: what is on its way comes in order and in time.
+-- A whole push between two obedient peers, over what they know alone: what is on its way arrives in order and in time.
 use Rattle.std.specs.Prelude.{◌≡◌, ℕ, ◌-◌, true, List, [], ◌∷◌, length, None, Some}
 use Rattle.bar_terms.specs.Terms.{offer_ok}
 use Rattle.bar_window.specs.declared.exchange.Exchange.{Exchange}
@@ -25,16 +25,16 @@ query_of p seed signature young aged = record {
   signature = signature;
 }
 
--- the terms that both will have, by what the second peer holds then: it wants what it lacks of the young updates, gives for as many what
--- it holds of the aged ones, and pads with junk
+-- The terms that both will have, by what the second peer holds then. It wants those of the young updates that it lacks, gives as many of
+-- the aged ones that it holds, and pads with junk.
 abbrev pub offer_terms_then : Pair → Talk → List UpdateId → List UpdateId → Terms
 offer_terms_then p t young aged =
     let want : List UpdateId = wanted_of (two p) t.theirs young in
     let give : List UpdateId = given_of (two p) t.theirs young aged in
     forms.Push young aged want give (length want - length give)
 
--- The first peer has said a QUERY, which is on its way, and the second one admits it. Nothing else of the exchange was said or heard, neither
--- has the other announced evicted, and both are in time for all datagrams of the exchange.
+-- The first peer has said a QUERY, which is on its way, and which the second one admits. Nothing else of the exchange was said or heard,
+-- neither has the other announced evicted, and both are in time for all datagrams of the exchange.
 pub record CanPush (p : Pair) (t : Talk) (young aged : List UpdateId) : Type 0 where
   pub apart : p.first ≡ p.second → ⊥
   pub seed : List ℕ

@@ -33,7 +33,7 @@ pub record MakesRequest (out : Out) (partner round : ℕ) : Type 0 where
   pub said : Contains out.state (Said request)
   pub sent : Contains out.sends (partner, request)
 
--- so at the first slot of each round, unless the partner is announced evicted, or owes a key in this round
+-- this occurs at the first slot of each round, unless the partner is announced evicted or owes a key in this round
 abbrev pub RequestsAreMade : Type 0
 RequestsAreMade =
     (me : Member) (log : Log) (round : ℕ) → IsRoundDue me log round → is_announced log (partner_then me round) ≡ false
@@ -54,8 +54,8 @@ pub record IsRequested (setup : Setup) (moves : List Move) (from to round : ℕ)
   pub body : request.message.body ≡ Request round seed commitment
   pub receiver : request.message.to ≡ to
 
--- A peer hasn't announced the asker evicted and is owed no key by it, has admitted no REQUEST of it in the round, has a seat left, and is in
--- time.
+-- A peer hasn't announced the asker evicted and is owed no key by it, has admitted no REQUEST from it in the round, has a seat left, and is
+-- in time.
 pub record CanSeat (me : Member) (log : Log) (from round : ℕ) : Type 0 where
   pub trading : is_announced log from ≡ false
   pub unowed : owes me (known me log) from ≡ false

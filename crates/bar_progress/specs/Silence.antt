@@ -1,4 +1,5 @@
--- From evidence that a trusted peer keeps to the silence: the report, the notice of a later round, its delivery, and what there is no more.
+-- From evidence that a trusted peer keeps to the end of all trade: the report, the notice of a later round, its delivery, and the silence
+-- after it.
 use Rattle.std.specs.Prelude.{◌≡◌, ℕ, Bool, true, List, [], ◌∷◌, ◌++◌, Some, slice_get}
 use Rattle.std.specs.List.{AllByRecursion}
 use Rattle.bar_wire.specs.Datagram.{Datagram}
@@ -15,7 +16,7 @@ use Rattle.bar_laws.specs.Parties.{ForgesNothing, IsCastersLog, after}
 use Rattle.bar_progress.specs.Evictions.{AwaitsNotice, IsReported, IsSpared}
 use Rattle.bar_progress.specs.Rounds.{IsRoundDue}
 
--- Whatever is delivered under the party's name leaves the peer as it was, and the peer sends the party nothing at any input.
+-- Whatever is delivered in the party's name leaves the peer as it was, and the peer sends the party nothing at any input.
 pub record LeavesAlone (me : Member) (log : Log) (party : ℕ) : Type 0 where
   pub takes_nothing :
       (bytes : List ℕ) (d : Datagram) → datagram_of me.session bytes ≡ Some d → d.message.from ≡ party
@@ -35,8 +36,8 @@ pub record IsDenounced (setup : Setup) (trusted : ℕ → Bool) (moves : List Mo
   pub caster_is : IsCastersLog (after setup (until_tick moves report waiting)) caster
   pub due : IsRoundDue (member setup 0) caster round
 
--- After these moves a packet with the notice is on its way to the peer. Once it is delivered in time, whatever moves come after, the peer
--- leaves the party alone.
+-- After these moves a packet with the notice is on its way to the peer. Once it is delivered in time, the peer leaves the party alone,
+-- whatever moves follow.
 pub record IsOnItsWay (setup : Setup) (trusted : ℕ → Bool) (moves : List Move) (peer party round : ℕ) : Type 0 where
   pub number : ℕ
   pub bytes : List ℕ
@@ -46,7 +47,7 @@ pub record IsOnItsWay (setup : Setup) (trusted : ℕ → Bool) (moves : List Mov
       → slice_get (after setup ((moves ++ waiting) ++ Deliver number ∷ later)).logs peer ≡ Some end
       → LeavesAlone (member setup peer) end party
 
--- so for each trusted peer: the tick sends it the notice
+-- the tick does so for each trusted peer
 abbrev pub EvidenceEndsTrade : Type 0
 EvidenceEndsTrade =
     (setup : Setup) (trusted : ℕ → Bool) (moves waiting : List Move) (report : Move) (party round peer : ℕ)

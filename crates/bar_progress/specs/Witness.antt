@@ -1,4 +1,4 @@
--- Exchanges can begin: there is a world in which two peers meet all that the laws of trades and of pushes ask for.
+-- Exchanges can begin: there is a world in which two peers meet all premises of the laws of trades and of pushes.
 use Rattle.std.specs.Prelude.{◌≡◌, ℕ, Bool, true, List}
 use Rattle.std.specs.List.{AllByRecursion}
 use Rattle.bar_window.specs.declared.update.UpdateId.{UpdateId}
@@ -10,7 +10,7 @@ use Rattle.bar_progress.specs.Trades.{BeginsTrade}
 abbrev pub all_trusted : ℕ → Bool
 all_trusted party = true
 
--- A session of two peers, and moves of a network that makes up no datagram, after which the REQUEST of the first in round 1 is in the pool,
+-- A session of two peers, and moves of a network that makes up no datagram. After them the REQUEST of the first in round 1 is in the pool,
 -- and the two can trade.
 pub record TradeBegun : Type 0 where
   pub setup : Setup
@@ -22,7 +22,7 @@ pub record TradeBegun : Type 0 where
   pub ha : List UpdateId
   pub begins : BeginsTrade setup all_trusted moves request 1 2 1 nonce ha
 
--- the same of the QUERY of the first
+-- the same for the QUERY of the first
 pub record PushBegun : Type 0 where
   pub setup : Setup
   pub peers : setup.session.shape.peers ≡ 2

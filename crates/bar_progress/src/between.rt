@@ -1,4 +1,4 @@
-//! Exchanges go on, whatever stands between their deliveries.
+//! Exchanges continue, whatever moves occur between their deliveries.
 
 ghost use Rattle.bar_progress.specs.Between.{PacketsAreGiven, TradesGoOn};
 
@@ -14,12 +14,13 @@ use bar_laws::parties::{
 use bar_laws::premises::premises_can_be_met;
 use bar_terms::laws::promises_are_equally_long;
 
-/// Between two trusted peers of a world that can trade, a balanced exchange goes on whatever moves stand between its deliveries: ticks,
-/// repeats, hostile datagrams, and other exchanges of the two. Each next datagram has been sent; once its receiver takes it in time, by a
-/// delivery or from whoever has its bytes, the one after it has been sent too; and after the last both have what was agreed, for good.
+/// Between two trusted peers of a world that can trade, a balanced exchange continues whatever moves occur between its deliveries: ticks,
+/// repeats, hostile datagrams, and other exchanges of the two. Each next datagram has been sent. Once its receiver takes it in time, by a
+/// delivery or from any party that has its bytes, the one after it has been sent too. After the last one both peers have what was agreed,
+/// for good.
 pub fn trades_go_on()
     ensures goes { TradesGoOn }
-    // a delivery is such a move
+    // a delivery gives the receiver the bytes of the packet
     ensures given { PacketsAreGiven }
 {
     logs_grow();

@@ -1,4 +1,4 @@
-//! The premises can be met.
+//! The premises of the laws can be met.
 
 ghost use Rattle.bar_progress.specs.Witness.{PushBegun, TradeBegun};
 
@@ -6,7 +6,7 @@ use bar_laws::broadcasting::blocks_reach_their_fanout;
 use bar_laws::parties::sent_is_accepted;
 use bar_laws::premises::premises_can_be_met;
 
-/// There is a world in which two trusted peers meet all that the laws of trades ask for: so none of these holds for want of a case.
+/// There is a world in which two trusted peers meet all premises of the laws of trades, so none of these laws holds vacuously.
 pub fn trades_can_begin()
     ensures { TradeBegun }
 {
@@ -15,7 +15,7 @@ pub fn trades_can_begin()
     blocks_reach_their_fanout();
 }
 
-/// The same of pushes.
+/// The same for pushes.
 pub fn pushes_can_begin()
     ensures { PushBegun }
 {

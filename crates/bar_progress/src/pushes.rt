@@ -10,8 +10,8 @@ use bar_laws::parties::{keys_open_well, nobody_is_accused, sent_is_accepted};
 use bar_laws::premises::premises_can_be_met;
 use bar_terms::laws::promises_are_equally_long;
 
-/// A push of two peers whose datagrams come in order and in time is complete after eight: each side has opened as much as was agreed, junk
-/// included, and has the other's key.
+/// A push of two peers whose datagrams arrive in order and in time is complete after eight: each side has opened as much as was agreed,
+/// junk included, and has the other's key.
 pub fn pushes_are_completed()
     ensures { PushesAreCompleted }
 {

@@ -12,8 +12,8 @@ pub fn requests_are_made()
     ensures { RequestsAreMade }
 {}
 
-/// A REQUEST that a peer of a world has signed is admitted by its receiver if this is in time, has a seat left, hasn't announced the peer
-/// evicted and is owed no key by it, whatever is forged.
+/// Whatever is forged, the receiver of a REQUEST that a peer of a world has signed admits it under these conditions. The receiver is in
+/// time, has a seat left, hasn't announced the peer evicted, and is owed no key by it.
 pub fn requests_are_admitted()
     ensures { RequestsAreAdmitted }
 {

@@ -1,4 +1,4 @@
--- What is written as a proof file is read back.
+-- A proof file that is written is read back.
 use Rattle.std.proofs.Common.{◌≡◌, ℕ, ◌+◌, ◌<◌, ◌^◌, true, List, [], ◌∷◌, ◌++◌, length, refl, sym, ap, ◌∙◌, arith, append_assoc}
 use Rattle.std.specs.Prelude.{Some, Ok, Err, if◌then◌else◌}
 use Rattle.std.specs.List.{AllByRecursion}

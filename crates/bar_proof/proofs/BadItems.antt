@@ -12,7 +12,7 @@ use Rattle.bar_rules.specs.Values.{counts_ok, opening_of, terms_ok}
 use Rattle.bar_rules.specs.Judge.Verdict.{bad_opening}
 use Rattle.bar_proof.specs.Needs.{bad_item, bad_round, round_of_item, OpensBadly}
 
--- what opens badly has terms that can be opened
+-- a briefcase that opens badly has valid terms, and counts that are those of the promise
 pub opened-valid : (s : Session) (table : Table) (m n : Message) (c : Briefcase) (x : Exchange) → OpensBadly s table m n → briefcase_in m.body ≡ Some c
     → is_some (key_in n.body) ≡ true → x ≡ exchange_by c.round c.kind c.role m.from m.to → (terms_ok s no_lists x c.terms && counts_ok s c) ≡ true
 opened-valid s table m n c x opens of some is = go (key_in n.body) (λ k key. opens c k of key) some
@@ -32,7 +32,7 @@ counts-are s c ok =
     let p : ((c.updates == length (promised_updates s.cap c.terms c.role)) ≡ true) × ((c.junk == promised_junk c.terms c.role) ≡ true) = and_parts _ _ ok in
     record { updates = eqb-true _ _ p.0; junk = eqb-true _ _ p.1 }
 
--- what is found of a briefcase and a key is said of the two datagrams
+-- what is found of a briefcase and a key holds of the two datagrams
 pub bad-told : (s : Session) (table : Table) (m : Message) (c : Briefcase) {k : KeyGiven} (x : Exchange) (r : Option ℕ) (oc : Option Briefcase) (ok : Option KeyGiven)
     → oc ≡ Some c → ok ≡ Some k → x ≡ exchange_by c.round c.kind c.role m.from m.to
     → r ≡ option_and_then round_of_item (bad_item (opening_of s table x c k.key) (promise s.cap c.terms c.role)) → r ≡ bad_round s table m oc ok

@@ -28,13 +28,13 @@ use Rattle.bar_laws.specs.Verdicts.{ShownStaysShown}
 use Rattle.bar_proof.specs.Needs.{round_of_item, bad_item, bad_round, listed_updates, least, rounds_past_end, past_round, round_for, is_shown, only, needed}
 use Rattle.bar_proof.specs.Laws.{NeededIsEnough}
 
--- the list of one round alone says of an update of it what the table says
+-- the list of one round alone says the same of an update of that round as the table
 only-says : (table : Table) (u : UpdateId) → digest_of (only table u.round) u ≡ digest_of table u
 only-says table u = rw (eq-eqb u.round u.round refl) refl
 
 -- ---- terms
 
--- some update stands past the end of its list under the list of this round alone
+-- under the list of this round alone, some update is past the end of its list
 abbrev pub EndsBefore : Table → List UpdateId → ℕ → Type 0
 EndsBefore table us round = none_past_end (only table round) us ≡ false
 
@@ -114,12 +114,12 @@ and-mid true true false d e = cc
 and-mid true false c d e = cc
 and-mid false b c d e = cc
 
--- of terms that are valid under the empty table, a table asks the ends of its lists and no more
+-- for terms that are valid under the empty table, a table tests only the ends of its lists
 terms-end : (s : Session) (table : Table) (x : Exchange) (t : Terms) → terms_ok s no_lists x t ≡ true → terms_ok s table x t ≡ none_past_end table (listed_updates t)
 terms-end s table x (forms.Balanced nonce ha hb) ok = and-left _ _ _ ok ∙ sym (none-append table ha hb)
 terms-end s table x (forms.Push young aged want give junk) ok = and-mid _ _ _ _ ok ∙ sym (none-append table young aged)
 
--- terms that are bad only by a list are bad by the list of one round
+-- terms that are bad only because of a list are bad by the list of one round
 terms-enough : (s : Session) (table : Table) (m : Message) (c : Briefcase) → bad_terms s no_lists m c ≡ false → bad_terms s table m c ≡ true
     → (r : ℕ) × (least (rounds_past_end table (listed_updates c.terms)) ≡ Some r) × (bad_terms s (only table r) m c ≡ true)
 terms-enough s table m c good bad =
@@ -151,7 +151,7 @@ bad-any fs = ap is_bad (by-any fs) ∙ bad_some (list_any is_broken fs) (positio
 bad-at : (fs : List Finding) → list_any is_broken fs ≡ true → opening.opening_of fs ≡ Bad (position_or_len is_broken fs)
 bad-at fs e = by-any fs ∙ ap (λ b. opening_by (cond b (Some (position_or_len is_broken fs)) None) (position is_untold fs) (length fs)) e
 
--- the first broken item; and under a table that says the same of it, some item is broken
+-- the first broken item; under a table that says the same of this item, some item is broken
 record FirstBroken (table : Table) (junk : List ℕ) (items : List Item) (bytes : List ℕ) : Type 0 where
   pub item : Item
   pub at : slice_get items (position_or_len is_broken (findings table junk items bytes)) ≡ Some item
@@ -192,7 +192,7 @@ first-broken table junk (item ∷ items) bytes e =
           stays = λ two same. or-right (is_broken (item_finding two junk item front)) _ (more.stays two same);
         }
 
--- what opens badly only by a list opens badly by the list of one round
+-- what opens badly only because of a list opens badly by the list of one round
 opening-enough : (s : Session) (table : Table) (x : Exchange) (c : Briefcase) (key : List ℕ) → is_bad (opening_of s no_lists x c key) ≡ false
     → is_bad (opening_of s table x c key) ≡ true
     → (r : ℕ) × (option_and_then round_of_item (bad_item (opening_of s table x c key) (promise s.cap c.terms c.role)) ≡ Some r)
@@ -241,7 +241,7 @@ pair-enough s table m n (Some c) (Some k) good bad =
 
 -- ---- faults
 
--- what one datagram shows by a list alone
+-- what one datagram shows only because of a list
 one-by : (a a0 b : Bool) (f : Fault) → option_or (then_some a0 BadTerms) (then_some b WrongPartner) ≡ None
     → option_or (then_some a BadTerms) (then_some b WrongPartner) ≡ Some f → (a0 ≡ false) × (a ≡ true) × (f ≡ BadTerms)
 one-by true false false f none some = (refl, refl, (let eq : Some BadTerms ≡ Some f = some in cc))
@@ -267,7 +267,7 @@ one-enough s table d f none some =
         let r = terms-enough s table d.message c good bad in
         (r.0, r.1, rw r.2 (ap Some (sym e)))
 
--- what two datagrams show by a list alone: one of them is a briefcase that opens badly by the other
+-- what two datagrams show only because of a list: one of them is a briefcase that the other opens badly
 pub two-by : (a a0 b b0 : Bool) (v w : Option Fault) (f : Fault)
     → option_or (option_or (then_some a0 BadOpening) v) (option_or (then_some b0 BadOpening) w) ≡ None
     → option_or (option_or (then_some a BadOpening) v) (option_or (then_some b BadOpening) w) ≡ Some f
@@ -346,7 +346,7 @@ all-enough s table (d ∷ e ∷ g ∷ ds) f none some = cc
 
 -- ---- verdicts
 
--- what was shown of some datagrams, by their fault
+-- what was shown of some datagrams, from their fault
 abbrev pub checked : Session → Table → List Datagram → Bool → Bool → Option Fault → Verdict
 checked s table ds one signed o = if not one then NotShown Malformed else (if not signed then NotShown NotSigned else judged s table ds o)
 
@@ -361,7 +361,7 @@ checked-enough s table ds party f true true (Some g) None e e0 none shown =
     let r = all-enough s table ds g e0 e in
     (only table r.0, (r.0, r.1, refl), rw r.2 shown)
 
--- by the bytes that are read
+-- from the bytes that are read
 read-enough : (s : Session) (table : Table) (o : Option (List Datagram)) (party : ℕ) (f : Fault) → is_shown (verdict_on s no_lists o) ≡ false
     → verdict_on s table o ≡ Shown party f
     → verdict_on s (needed table (option_and_then (round_for s table) o)) o ≡ Shown party f
@@ -374,7 +374,7 @@ read-enough s table (Some ds) party f none shown =
 nothing-extends : (table : Table) → Extends no_lists table
 nothing-extends table = record { same = λ r ds e. cc }
 
--- what is shown under the empty table is shown so under each
+-- what is shown under the empty table is shown under each table
 same-shown : ShownStaysShown → (s : Session) (table : Table) (evidence : List (List ℕ)) (party : ℕ) (f : Fault) (v : Verdict) → verdict s no_lists evidence ≡ v
     → is_shown v ≡ true → verdict s table evidence ≡ Shown party f → verdict s no_lists evidence ≡ Shown party f
 same-shown law s table evidence party f (NotShown why) e shown is = cc

@@ -17,12 +17,12 @@ use Rattle.bar_wire.proofs.EvidenceReads.{lengths_fit}
 use Rattle.bar_wire.proofs.ReadBack.{entries_back}
 use Rattle.bar_proof.specs.ProofFile.{datagrams_at, evidence_of}
 
--- the datagrams stand where they are looked for
+-- the datagrams are where they are looked for
 stand-there : (bytes : List ℕ) (ds : List (List ℕ)) → IsEvidence bytes ds → datagrams_at bytes ≡ ds
 stand-there bytes ds of =
     ap datagrams_at of.is ∙ ap (entries (length ds)) (append-nil (flat_map entry ds)) ∙ entries_back ds (lengths_fit ds of.range.2)
 
--- what bytes are made of is what they are as evidence
+-- the datagrams from which bytes were made are those that they encode as evidence
 pub spelled : (bytes : List ℕ) (ds : List (List ℕ)) → IsEvidence bytes ds → evidence_of bytes ≡ Some ds
 unfolding evidence_of
 spelled bytes ds of =
@@ -47,7 +47,7 @@ is-spelled bytes ds h = by_test (are_datagrams_in_range (datagrams_at bytes) && 
           is = sym ((bytes_eq-Decides (evidence_bytes (datagrams_at bytes)) bytes).0 t.1);
         })
 
--- what is found is what the bytes spell
+-- what is found is what the bytes encode
 pub evidence-read : (bytes : List ℕ) (r : Result EvidenceView WireFault) → IfOk r (λ v. IsEvidence bytes (datagrams_of v))
     → ((ds : List (List ℕ)) → IsEvidence bytes ds → IsOkAnd r (λ v. datagrams_of v ≡ ds))
     → option_map datagrams_of (result_ok r) ≡ evidence_of bytes

@@ -5,11 +5,11 @@ use Rattle.std.specs.Borrow.{Bor}
 use Rattle.bar_judge.specs.declared.entries.First.{First as RawFirst}
 use Rattle.bar_judge.specs.declared.entries.First.TheVariants as raw
 use Rattle.bar_judge.specs.TableFile.{NoByte, Entry, NoEntry, first_of, table_bytes}
-use Rattle.bar_judge.specs.TableViews.{plain_first}
+use Rattle.bar_judge.specs.Code.TableViews.{plain_first}
 use Rattle.bar_judge.proofs.TableWriting.{first_written, entries_many, no_byte}
 use Rattle.bar_proof.specs.ProofFile.{AreShort}
 
--- Some manifests are left, and the first that passes is the first of all.
+-- Some manifests are left, and the first one of them that passes is the first of all.
 pub record Remain (p : List ℕ → Bool) (manifests : List (List ℕ)) (rest : List ℕ) (most i : ℕ) : Type 0 where
   pub left : List (List ℕ)
   pub short : AreShort left
@@ -17,7 +17,7 @@ pub record Remain (p : List ℕ → Bool) (manifests : List (List ℕ)) (rest : 
   pub same : find p manifests ≡ find p left
   pub few : length left + i ≤ most
 
--- so it is, of whatever manifests the table file is
+-- this holds for any manifests that the table file encodes
 abbrev pub RemainsOf : (List ℕ → Bool) → List ℕ → List ℕ → ℕ → Type 0
 RemainsOf p table rest i = (manifests : List (List ℕ)) → AreShort manifests → table ≡ table_bytes manifests → Remain p manifests rest (length table) i
 
@@ -30,7 +30,7 @@ all-remain p table manifests short is = record {
   few = omega (arith, entries_many manifests, ap length is);
 }
 
--- the first of those that are left is the entry that stands there
+-- the first of those that are left is the next entry
 pub record IsFirst (left : List (List ℕ)) (manifest others : List ℕ) : Type 0 where
   pub behind : List (List ℕ)
   pub is : left ≡ manifest ∷ behind

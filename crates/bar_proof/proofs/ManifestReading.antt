@@ -10,7 +10,7 @@ use Rattle.bar_terms.specs.Table.{Lists, digests_of}
 use Rattle.bar_wire.specs.Grammar.{entry as entry_bytes}
 use Rattle.bar_wire.proofs.Lists.{IsBytes, IsBytes-append, two_bytes}
 use Rattle.bar_rules.specs.Member.{Session}
-use Rattle.bar_judge.specs.TableViews.{plain_first}
+use Rattle.bar_judge.specs.Code.TableViews.{plain_first}
 use Rattle.bar_judge.specs.declared.entries.First.{First as RawFirst}
 use Rattle.bar_judge.specs.declared.entries.First.TheVariants as raw
 use Rattle.bar_judge.specs.TableFile.{First, NoByte, Entry, NoEntry, RoundList, first_of, list_after}
@@ -22,7 +22,7 @@ use Rattle.bar_proof.specs.ProofFile.{has_head, with_list, lists_by, counted_lis
 
 -- ---- entries
 
--- An entry stands where bytes begin with one.
+-- Bytes begin with an entry.
 pub record IsEntry (bytes manifest others : List ℕ) : Type 0 where
   pub is : bytes ≡ entry_bytes manifest ++ others
   pub short : length manifest < 2 ^ 16
@@ -78,13 +78,13 @@ pub counted_none : (s : Session) (last at : ℕ) (bytes : List ℕ) → counted_
 unfolding counted_lists
 counted_none s last at bytes = refl
 
--- ---- how far a reading has come
+-- ---- the progress of a reading
 
--- what the whole file has, behind its head
+-- what the whole file contains after its head
 abbrev pub all_lists : Session → List ℕ → Result (Lists × List ℕ) ProofFault
 all_lists s whole = counted_lists (slice_index whole 5) s 0 6 (drop 6 whole)
 
--- so many lists of the whole are read, which a table has, and the rest stands behind them
+-- so many lists of the whole are read, which a table contains, and the rest follows them
 pub record IsReadTo (s : Session) (whole : List ℕ) (i last : ℕ) (rest : List ℕ) (table : Lists) : Type 0 where
   pub lists : Lists
   pub read : all_lists s whole ≡ after lists (counted_lists (slice_index whole 5 - i) s last (length whole - length rest) rest)
@@ -113,7 +113,7 @@ read_none s whole rest table empty head fits is =
 pub behind-head : (whole : List ℕ) → take (length whole - 6) (drop 6 whole) ≡ drop 6 whole
 behind-head whole = ap (λ n. take n (drop 6 whole)) (sym (length-drop 6 whole)) ∙ take-length (drop 6 whole)
 
--- the reading goes on by what the rest begins with
+-- the reading continues with what the rest begins with
 pub read_by : (s : Session) (whole rest : List ℕ) (i last : ℕ) (table : Lists) (first : First) (h : IsReadTo s whole i last rest table) → i < slice_index whole 5
     → first_of rest ≡ first
     → all_lists s whole ≡ after h.lists
@@ -124,7 +124,7 @@ read_by s whole rest i last table first h below is =
     (counted_step (slice_index whole 5 - i) s last (length whole - length rest) rest some
     ∙ ap (lists_by (λ round place others. counted_lists (slice_index whole 5 - i - 1) s round place others) s last (length whole - length rest)) is)
 
--- no entry stands there
+-- no entry is there
 pub read_cut : (s : Session) (whole rest : List ℕ) (i last : ℕ) (table : Lists) → IsReadTo s whole i last rest table → i < slice_index whole 5
     → (found : RawFirst) → plain_first found ≡ first_of rest → ((manifest others : Bor (List ℕ)) → found ≡ raw.Entry manifest others → ⊥)
     → all_lists s whole ≡ Err (BadManifest (length whole - length rest))

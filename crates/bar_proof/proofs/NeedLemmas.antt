@@ -8,7 +8,7 @@ use Rattle.std.proofs.lemmas.Option.{none-some}
 use Rattle.bar_terms.specs.Table.{Table, no_lists}
 use Rattle.bar_wire.specs.declared.shape.Shape.{Shape}
 use Rattle.bar_wire.specs.declared.view.View.{View}
-use Rattle.bar_judge.specs.Parts.{datagrams, with_second}
+use Rattle.bar_judge.specs.Code.Parts.{datagrams, with_second}
 use Rattle.bar_wire.specs.Bodies.{briefcase_in, key_in}
 use Rattle.bar_wire.specs.Datagram.{Message, Datagram}
 use Rattle.bar_rules.specs.Member.{Session}
@@ -34,7 +34,7 @@ with-case s table m n bad c k of key = (λ i. bad_opening s table m n (sym of i)
 without-case : (s : Session) (table : Table) (m n : Message) → briefcase_in m.body ≡ None → OpensBadly s table m n
 without-case s table m n none c k of key = absurd (none-some c (sym none ∙ of))
 
--- two that show a fault by a list alone
+-- two datagrams that show a fault only because of a list
 pub open-badly : (s : Session) (table : Table) (d e : Datagram) → fault_of_two s no_lists d e ≡ None → is_some (fault_of_two s table d e) ≡ true
     → OpensBadly s table d.message e.message × OpensBadly s table e.message d.message
 open-badly s table d e none some = by_leaves (is_leaf_twice s d e) none some

@@ -1,4 +1,4 @@
--- What is packed has the one list that is needed.
+-- What is packed contains the one list that is needed.
 use Rattle.std.proofs.Common.{◌≡◌, ℕ, ◌<◌, ◌≤◌, Bool, true, false, List, [], ◌∷◌, length, refl, sym, ap, ◌∙◌, subst, arith, cond}
 use Rattle.std.specs.Prelude.{Option, Some, None, filter, option_map, option_and_then, ◌==◌, nat_lt}
 use Rattle.std.specs.Option.{option_map_or}
@@ -19,7 +19,7 @@ use Rattle.bar_proof.specs.Laws.{NeededIsEnough, PackedIsShown}
 
 -- ---- a manifest and its list
 
--- what a manifest that gives a list is
+-- a manifest that gives a list
 pub record Gives (s : Session) (last : ℕ) (manifest : List ℕ) (entry : RoundList) : Type 0 where
   pub later : last < entry.0
   pub again : (low : ℕ) → low < entry.0 → list_after s low manifest ≡ Some entry
@@ -59,7 +59,7 @@ gives s last manifest entry listed =
 of_round : ℕ → Lists → Lists
 of_round round lists = filter (λ (e : RoundList). e.0 == round) lists
 
--- the parts of lists that are given
+-- the parts of the given lists
 pub record Splits (s : Session) (last : ℕ) (manifest : List ℕ) (manifests : List (List ℕ)) (lists : Lists) : Type 0 where
   pub entry : RoundList
   pub rest : Lists
@@ -163,7 +163,7 @@ few-of s round last (manifest ∷ manifests) lists are =
 
 -- ---- the law
 
--- what is packed has the table that is needed
+-- what is packed gives the table that is needed
 packed-table : (s : Session) (manifests : List (List ℕ)) (lists : Lists) (o : Option ℕ) → lists_of s 0 manifests ≡ Some lists
     → (own : Lists) × (lists_of s 0 (manifests_for s o manifests) ≡ Some own) × (digests_of own ≡ needed (digests_of lists) o)
 packed-table s manifests lists None are = ([], refl, refl)

@@ -1,4 +1,4 @@
--- What is packed, and why nothing is.
+-- What is packed, and when nothing is.
 use Rattle.std.proofs.Common.{◌≡◌, ℕ, List, ap, sym, ◌∙◌, ◌<◌, ◌^◌, length, arith, inl, inr}
 use Rattle.std.specs.Prelude.{◌⊎◌, Some, Ok, Err}
 use Rattle.bar_terms.specs.Table.{Lists, digests_of}

@@ -9,14 +9,14 @@ use Rattle.std.proofs.lemmas.Option.{same_Some}
 use Rattle.bar_window.specs.declared.update.UpdateId.{UpdateId}
 use Rattle.bar_window.specs.declared.window.Window.{Window}
 use Rattle.bar_window.specs.Updates.{same_update, has_update}
-use Rattle.bar_window.specs.Window.{members}
+use Rattle.bar_window.specs.Code.Window.{members}
 use Rattle.bar_window.proofs.Sets.{same_self, has_contains}
 use Rattle.bar_window.proofs.Members.{member_has_room}
 use Rattle.bar_terms.specs.Table.{Table, digest_of, is_past_end}
 use Rattle.bar_terms.proofs.Ends.{any_fails, past_from, is_from}
 use Rattle.bar_proof.specs.Needs.{least, rounds_past_end}
 
--- an update of a round that stands past the end of its list
+-- an update of a round that is past the end of its list
 abbrev pub is_past_in : Table → ℕ → UpdateId → Bool
 is_past_in table round u = (u.round == round) && is_past_end (digest_of table u)
 
@@ -114,7 +114,7 @@ all-append : (P : UpdateId → Type 0) (us vs : List UpdateId) → AllByRecursio
 all-append P [] vs one two = two
 all-append P (u ∷ us) vs one two = (one.0, all-append P us vs one.1 two)
 
--- no update of earlier rounds stands past the end
+-- no update of earlier rounds is past the end
 abbrev pub NoneBefore : Table → List UpdateId → ℕ → Type 0
 NoneBefore table us r = (u : UpdateId) → has_update us u ≡ true → u.round < r → is_past_end (digest_of table u) ≡ false
 

@@ -1,4 +1,4 @@
--- What is read as a proof file is written so.
+-- Bytes that are read as a proof file are an encoding of it.
 use Rattle.std.proofs.Common.{◌≡◌, ℕ, zero, suc, ◌+◌, ◌<◌, ◌&&◌, ◌++◌, Bool, true, false, List, [], ◌∷◌, length, take, drop, refl, ap, sym, ◌∙◌, arith, append_assoc, nat_le, nat_lt}
 use Rattle.std.specs.Prelude.{Option, Some, None, Result, Ok, Err, bytes_eq, slice_index, if◌then◌else◌}
 use Rattle.std.proofs.lemmas.Bool.{and_parts, leb-true, ltb-true}

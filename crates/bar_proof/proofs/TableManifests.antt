@@ -35,7 +35,7 @@ no-bytes (high ∷ low ∷ rest) is = elim (cases_Bool (nat_le (first_u16 (high 
   | inr short ↦ absurd (let e : NoEntry ≡ NoByte = rw short at is in cc)
 ]
 
--- one entry and those behind it
+-- one entry and those after it
 one-more : (s : Session) (last : ℕ) (bytes manifest rest : List ℕ) (entry : RoundList) (others lists : Lists) → bytes ≡ entry_bytes manifest ++ rest
     → length manifest < 2 ^ 16 → list_after s last manifest ≡ Some entry → entry ∷ others ≡ lists → IsTableFile s entry.0 rest others
     → IsTableFile s last bytes lists
@@ -81,11 +81,11 @@ file-of (suc most) s last at bytes lists fits e =
         by_list manifest rest (list_after s last manifest) stands.is stands.short refl e
         (λ round others read. later round (at + length (entry_bytes manifest)) rest others left read)
 
--- a table file that is read is that of its manifests
+-- a table file that is read is the file of its manifests
 pub table-file : (s : Session) (bytes : List ℕ) (lists : Lists) → IsBytes bytes → table_of s bytes ≡ Ok lists → IsTableFile s 0 bytes lists
 table-file s bytes lists fits e = file-of (suc (length bytes)) s 0 0 bytes lists fits e
 
--- ---- the manifests by the lengths that stand before them
+-- ---- the manifests, cut by the lengths before them
 
 -- what the first length cuts off is the first manifest
 cut-first : (bytes manifest rest : List ℕ) → first_of bytes ≡ Entry manifest rest
@@ -147,7 +147,7 @@ are-listed (suc most) s last at bytes lists e =
 pub listed : (s : Session) (table : List ℕ) (lists : Lists) → table_of s table ≡ Ok lists → lists_of s 0 (manifests_in lists table) ≡ Some lists
 listed s table lists e = are-listed (suc (length table)) s 0 0 table lists e
 
--- there is a list of each manifest
+-- there is a list for each manifest
 same-many : (s : Session) (last : ℕ) (manifests : List (List ℕ)) (lists : Lists) → lists_of s last manifests ≡ Some lists → length lists ≡ length manifests
 same-many s last [] lists are = ap length (sym (same_Some [] lists are))
 same-many s last (manifest ∷ manifests) lists are =

@@ -1,4 +1,4 @@
--- Proof files: evidence, behind the manifest that it needs.
+-- Proof files: evidence, after the manifest that it needs.
 use Rattle.std.specs.Prelude.{◌<◌, ◌^◌, ℕ, zero, suc, ◌+◌, ◌&&◌, nat_le, nat_lt, Bool, false, List, [], ◌∷◌, ◌++◌, codes, length, take, drop, filter, slice_index, bytes_eq, Option, Some, None, Result, Ok, Err, if◌then◌else◌}
 use Rattle.std.specs.Bool.{then_some}
 use Rattle.std.specs.List.{AllByRecursion}
@@ -40,7 +40,7 @@ proof_bytes manifests datagrams = file_bytes manifests (evidence_bytes datagrams
 abbrev pub AreShort : List (List ℕ) → Type 0
 AreShort manifests = AllByRecursion (λ m. length m < 2 ^ 16) manifests
 
--- the manifests of a table file that has these lists: as many entries, by the lengths that stand before them
+-- the manifests of a table file that has these lists: as many entries, cut by the lengths before them
 abbrev pub manifests_in : Lists → List ℕ → List (List ℕ)
 manifests_in lists table = entries (length lists) table
 
@@ -48,7 +48,7 @@ manifests_in lists table = entries (length lists) table
 abbrev pub is_of_round : Session → ℕ → List ℕ → Bool
 is_of_round s round manifest = option_map_or (λ d. is_manifest_of round d.message.body) (datagram_of s manifest) false
 
--- what is packed of a table file's manifests where a round is needed, or none
+-- the packed manifests of a table file, if a round is needed, or none
 abbrev pub manifests_for : Session → Option ℕ → List (List ℕ) → List (List ℕ)
 manifests_for s None manifests = []
 manifests_for s (Some round) manifests = filter (is_of_round s round) manifests
@@ -69,16 +69,16 @@ lists_by rest_of s last at NoEntry = Err (BadManifest at)
 lists_by rest_of s last at (Entry manifest rest) =
     lists_behind (λ round. rest_of round (at + length (entry_bytes manifest)) rest) at (list_after s last manifest)
 
--- the lists of so many entries, and what follows them, where they begin at a place and this was the last round
+-- the lists of so many entries, and what follows them; the entries begin at this place, after this last round
 unfoldable pub counted_lists : ℕ → Session → ℕ → ℕ → List ℕ → Result (Lists × List ℕ) ProofFault
 counted_lists zero s last at bytes = Ok ([], bytes)
 counted_lists (suc count) s last at bytes = lists_by (λ round at rest. counted_lists count s round at rest) s last at (first_of bytes)
 
--- as many datagrams as the first byte says, by the lengths that stand before them
+-- as many datagrams as the first byte says, cut by the lengths before them
 abbrev pub datagrams_at : List ℕ → List (List ℕ)
 datagrams_at bytes = entries (slice_index bytes 0) (drop 1 bytes)
 
--- The one or two datagrams that bytes are as evidence: those that stand there, where they spell these bytes again.
+-- The one or two datagrams that bytes are as evidence: those that are cut from the bytes, if their encoding is these bytes.
 unfoldable pub evidence_of : List ℕ → Option (List (List ℕ))
 evidence_of bytes =
     then_some (are_datagrams_in_range (datagrams_at bytes) && bytes_eq (evidence_bytes (datagrams_at bytes)) bytes) (datagrams_at bytes)
@@ -94,7 +94,7 @@ proof_behind (Err fault) = Err fault
 abbrev pub has_head : List ℕ → Bool
 has_head bytes = nat_lt 5 (length bytes) && bytes_eq (take 5 bytes) letters && nat_le (slice_index bytes 5) most_manifests
 
--- what a proof file has, or its first fault from the left
+-- the contents of a proof file, or its first fault from the left
 abbrev pub proof_of : Session → List ℕ → Result Proof ProofFault
 proof_of s bytes = if has_head bytes then proof_behind (counted_lists (slice_index bytes 5) s 0 6 (drop 6 bytes)) else Err BadHead
 

@@ -8,7 +8,7 @@ use bar_judge::{First, first_of};
 use bar_roster::Session;
 use bar_wire::{Body, Shape, decode};
 
-/// Whether bytes spell the MANIFEST of a round.
+/// Whether bytes encode the MANIFEST of a round.
 fn is_of_round(shape: &Shape, bytes: &[u8], round: u32) -> bool
     ensures { (s : RulesSession) → s.shape ≡ shape.now → result ≡ is_of_round s round bytes.now }
 {

@@ -4,11 +4,11 @@ ghost use Rattle.bar_window.specs.Limits.{block_size, junk_size, most_items};
 ghost use Rattle.bar_window.specs.Terms.{plain_terms};
 ghost use Rattle.bar_terms.specs.Table.{digests_of, no_lists};
 ghost use Rattle.bar_terms.specs.Terms.{promise};
-ghost use Rattle.bar_terms.specs.Windows.{AreWindowsOf};
+ghost use Rattle.bar_terms.specs.Code.Windows.{AreWindowsOf};
 ghost use Rattle.bar_wire.specs.Bodies.{briefcase_in, key_in};
-ghost use Rattle.bar_wire.specs.Views.{datagram, plain};
+ghost use Rattle.bar_wire.specs.Code.Views.{datagram, plain};
 ghost use Rattle.bar_rules.specs.Values.{counts_ok, opening_of, terms_ok};
-ghost use Rattle.bar_judge.specs.Parts.{IsRead, plain_briefcase};
+ghost use Rattle.bar_judge.specs.Code.Parts.{IsRead, plain_briefcase};
 ghost use Rattle.bar_proof.specs.Needs.{bad_item, bad_round, round_of_item, OpensBadly};
 
 use bar_case::{Opening, unseal};
@@ -19,7 +19,7 @@ use bar_terms::{Item, Promise, Table, promise};
 use bar_window::{BLOCK_SIZE, Exchange, MOST_ITEMS};
 use bar_wire::{Body, View};
 
-/// The round of the item that is bad, where there is one and it is an update.
+/// The round of the bad item, if there is one and it is an update.
 fn round_of_bad(opening: Opening, promise: &Promise) -> Option<u32>
     requires { promise.now.len ≤ most_items }
     ensures { result ≡ option_and_then round_of_item (bad_item opening (take promise.now.len promise.now.items)) }
@@ -33,7 +33,7 @@ fn round_of_bad(opening: Opening, promise: &Promise) -> Option<u32>
     }
 }
 
-/// The round of the first bad item of a briefcase of an exchange, by a key, where that item is an update.
+/// The round of the first bad item that a key shows of a briefcase of an exchange, if that item is an update.
 fn bad_round_by(
     session: &Session,
     table: &Table,
@@ -67,7 +67,7 @@ fn bad_round_by(
     round_of_bad(opening, &promise(&case.terms, case.role, cap))
 }
 
-/// The round of the first bad item that the second datagram shows of the first, where they are a briefcase and a key for it that opens
+/// The round of the first bad item that the second datagram shows of the first, if they are a briefcase and a key for it that opens it
 /// badly, and the item is an update.
 pub(crate) fn bad_round(session: &Session, table: &Table, m: &View<'_>, n: &View<'_>) -> Option<u32>
     requires read { IsRead session.now.shape m.now }

@@ -1,6 +1,6 @@
 //! The verdict on a proof file.
 ghost use Rattle.std.specs.Prelude.{◌≡◌, ◌⊎◌, ◌+◌, ◌*◌, ◌≤◌, Ok, Err, IfOk, IfErr};
-ghost use Rattle.bar_judge.specs.Verdicts.{plain_verdict};
+ghost use Rattle.bar_judge.specs.Code.Verdicts.{plain_verdict};
 ghost use Rattle.bar_rules.specs.Verifiers.{IsVerifierOf, NamesLeavesOf};
 ghost use Rattle.bar_proof.specs.Laws.{IsProofSpelled};
 ghost use Rattle.bar_proof.specs.ProofFile.{proof_of, proof_verdict};
@@ -16,7 +16,7 @@ use bar_seal::Verifier;
 use std::alloc::Global;
 use std::sync::ledger::Ledger;
 
-/// The bytes of a proof file are those of its manifests and of its evidence, with no byte besides.
+/// The bytes of a proof file are those of its manifests and of its evidence, and no others.
 fn proof_is_spelled(session: &Session, bytes: &[u8])
     ensures { IsProofSpelled session.now bytes.now }
 {

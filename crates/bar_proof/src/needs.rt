@@ -1,12 +1,12 @@
-//! What evidence needs of a table.
+//! Which list of a table evidence needs.
 ghost use Rattle.std.specs.Prelude.{◌≡◌, ◌≤◌, None, IfOk, IsNone, is_some, true};
 ghost use Rattle.bar_terms.specs.Table.{digests_of, no_lists};
 ghost use Rattle.bar_wire.specs.Bodies.{choice_round};
 ghost use Rattle.bar_wire.specs.Evidence.{datagrams_of};
-ghost use Rattle.bar_wire.specs.Views.{plain};
+ghost use Rattle.bar_wire.specs.Code.Views.{plain};
 ghost use Rattle.bar_rules.specs.Judge.Verdict.{are_of_one_peer, fault_of, verdict};
 ghost use Rattle.bar_rules.specs.Verifiers.{NamesLeavesOf};
-ghost use Rattle.bar_judge.specs.Parts.{AreRead, datagrams_in};
+ghost use Rattle.bar_judge.specs.Code.Parts.{AreRead, datagrams_in};
 ghost use Rattle.bar_proof.specs.Needs.{is_shown, needs, round_for};
 
 use crate::items::bad_round;
@@ -20,7 +20,7 @@ use bar_wire::EvidenceView;
 use std::alloc::{AllocError, Global};
 use std::sync::ledger::Ledger;
 
-/// Whether datagrams show a fault under the empty table, where they are no choice of a partner alone. It takes no step.
+/// Whether datagrams show a fault under the empty table. A single datagram must not choose a partner. It takes no step.
 fn is_shown_alone<V: Verifier, L: Ledger>(
     alloc: Global,
     session: &Session,
@@ -49,7 +49,7 @@ fn is_shown_alone<V: Verifier, L: Ledger>(
     Ok(fault.is_some())
 }
 
-/// The round whose list datagrams need that show a fault under a table and none under the empty one.
+/// The round whose list datagrams need, if they show a fault under a table and none under the empty one.
 fn round_for(session: &Session, table: &Table, pair: &Pair<'_>) -> Option<u32>
     requires read { AreRead session.now.shape pair.now }
     requires none { fault_of session.now no_lists (datagrams_in session.now.shape pair.now) ≡ None }
@@ -66,7 +66,7 @@ fn round_for(session: &Session, table: &Table, pair: &Pair<'_>) -> Option<u32>
     }
 }
 
-/// The round whose list evidence needs that is shown under a table, or `None` where it is shown under the empty one. It takes no step.
+/// The round whose list evidence needs that is shown under a table, or `None` if it is shown under the empty one. It takes no step.
 pub(crate) fn needs<V: Verifier, L: Ledger>(
     alloc: Global,
     session: &Session,

@@ -8,9 +8,9 @@ use std::alloc::AllocError;
 /// Why evidence is not packed: the first cause in this order.
 #[derive(Clone, Copy, Debug, PartialEq, Eq)]
 pub enum PackFault {
-    /// The table file's first bad entry stands at this place, from 0.
+    /// The table file's first bad entry is at this place, counted from 0.
     Table { at: u64 },
-    /// The evidence isn't that of one or two datagrams.
+    /// The evidence isn't one or two datagrams.
     Evidence,
     /// The evidence shows no fault under the table, for this reason.
     NotShown(Why),

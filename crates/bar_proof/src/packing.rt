@@ -16,7 +16,7 @@ use bar_seal::Verifier;
 use std::alloc::Global;
 use std::sync::ledger::Ledger;
 
-/// The bytes of a table file are those of its manifests, with no byte besides.
+/// The bytes of a table file are those of its manifests, and no others.
 fn table_is_spelled(session: &Session, table: &[u8])
     ensures { IsSpelled session.now table.now }
 {
@@ -24,8 +24,8 @@ fn table_is_spelled(session: &Session, table: &[u8])
     let _table = table;
 }
 
-/// The proof file of evidence that is shown under the table of a table file, with the one manifest of it that the evidence needs, or with
-/// none. It reads the table file once and once more for the manifest, checks each signature once, and counts each hash of the signatures
+/// The proof file of evidence that is shown under the table of a table file, with the one manifest that the evidence needs, or with none.
+/// It reads the table file once, and a second time for the manifest. It checks each signature once, and counts each hash of the signatures
 /// and of the seeds.
 pub fn pack<V: Verifier, L: Ledger>(
     alloc: Global,

@@ -2,15 +2,15 @@
 ghost use Rattle.std.specs.Prelude.{◌≡◌, ◌==◌, ◌&&◌, ◌++◌};
 ghost use Rattle.std.specs.List.{list_any};
 ghost use Rattle.bar_window.specs.Terms.{plain_terms};
-ghost use Rattle.bar_window.specs.Window.{members, IsAligned};
+ghost use Rattle.bar_window.specs.Code.Window.{members, IsAligned};
 ghost use Rattle.bar_terms.specs.Table.{digests_of, digest_of, is_past_end};
-ghost use Rattle.bar_terms.specs.Windows.{AreAligned};
+ghost use Rattle.bar_terms.specs.Code.Windows.{AreAligned};
 ghost use Rattle.bar_proof.specs.Needs.{least, listed_updates, rounds_past_end};
 
 use bar_terms::Table;
 use bar_window::{Terms, UpdateId, Window};
 
-/// How many updates a round has at most.
+/// The most updates of a round.
 const MOST_UPDATES: u8 = 128;
 
 /// Whether a window has an update of a round past the end of the round's list.

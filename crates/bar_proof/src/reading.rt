@@ -16,7 +16,7 @@ use std::sync::ledger::Ledger;
 /// The letters BARP and the version, with which a proof file begins.
 pub(crate) const LETTERS: [u8; 5] = [b'B', b'A', b'R', b'P', 1];
 
-/// How many bytes stand before the manifests: the letters, the version and the count.
+/// How many bytes precede the manifests: the letters, the version and the count.
 const HEAD_LEN: usize = 6;
 
 /// The most manifests of a proof file.
@@ -30,7 +30,7 @@ pub(crate) fn has_head(bytes: &[u8]) -> bool
 }
 
 /// The table of a proof file's manifests, and what follows them, or the first fault of a manifest. It counts each hash: each manifest has
-/// one verification at most.
+/// at most one verification.
 pub(crate) fn read_manifests<'a, V: Verifier, L: Ledger>(
     alloc: Global,
     session: &Session,

@@ -7,7 +7,7 @@ use crate::reading::LETTERS;
 use bar_judge::add_entry;
 use std::alloc::{AllocError, Global};
 
-/// The proof file of a manifest, where there is one, and of evidence.
+/// The proof file of a manifest, if there is one, and of evidence.
 pub(crate) fn proof_file(
     alloc: Global,
     manifest: Option<&[u8]>,

@@ -1,4 +1,4 @@
--- What this peer offered in a push.
+-- The offer of this peer in a push.
 use Rattle.std.proofs.Common.{◌≡◌, ◌∙◌, true, false, Option, Some, None, is_some, refl, sym, ap, subst}
 use Rattle.std.proofs.lemmas.Bool.{and_parts, false≢true}
 use Rattle.std.specs.Prelude.{option_map, option_and_then, IfSome, if◌then◌else◌}
@@ -11,7 +11,7 @@ use Rattle.bar_window.specs.Terms.{plain_terms}
 use Rattle.bar_wire.specs.Bodies.{offer_in}
 use Rattle.bar_wire.specs.Datagram.{Datagram}
 use Rattle.bar_wire.specs.declared.kind.Kind.TheVariants as kinds
-use Rattle.bar_wire.specs.Views.{AreTermWindows}
+use Rattle.bar_wire.specs.Code.Views.{AreTermWindows}
 use Rattle.bar_rules.specs.Member.{Member}
 use Rattle.bar_rules.specs.Peer.Admission.{body_said}
 use Rattle.bar_rules.specs.Peer.Agreement.{IsRecent}
@@ -20,16 +20,16 @@ use Rattle.bar_rules.specs.Peer.Knowledge.{Knowledge}
 use Rattle.bar_rules.specs.Peer.Terms.{body_on}
 use Rattle.bar_ledger.specs.declared.entry.Entry.{Entry}
 use Rattle.bar_ledger.specs.declared.ledger.Ledger.{Ledger}
-use Rattle.bar_ledger.specs.Kept.{Kept}
-use Rattle.bar_ledger.specs.Lookups.{said_by, said_in, knows_offer, if_known, offer_of}
-use Rattle.bar_ledger.specs.Memory.{find_in}
-use Rattle.bar_ledger.specs.Recalls.{Recalls, IsKeptBy}
+use Rattle.bar_ledger.specs.Code.Kept.{Kept}
+use Rattle.bar_ledger.specs.Code.Lookups.{said_by, said_in, knows_offer, if_known, offer_of}
+use Rattle.bar_ledger.specs.Code.Memory.{find_in}
+use Rattle.bar_ledger.specs.Code.Recalls.{Recalls, IsKeptBy}
 
 is_initiator : (role : Role) → same_role Initiator role ≡ true → role ≡ Initiator
 is_initiator Initiator h = refl
 is_initiator Responder h = absurd (false≢true h)
 
--- the offer of an entry whose QUERY is said
+-- the offer in the entry of an exchange whose QUERY is said
 pub record IsOffer (me : Member) (k : Knowledge) (x : Exchange) (e : Entry) : Type 0 where
   pub windows : AreTermWindows me.session.shape x.round e.terms
   pub offer : option_and_then offer_in (body_said k kinds.Query x Initiator) ≡ offer_of (plain_terms e.terms)
@@ -59,7 +59,7 @@ offer_is me k l x e h recent same said = go (find_in l x) same said (h.kept x) (
               ∙ ap (λ (e : Entry). offer_of (plain_terms e.terms)) is;
         }
 
--- nothing is offered where no QUERY is said
+-- if no QUERY is said, nothing is offered
 pub no_offer : (k : Knowledge) (x : Exchange) → is_some (k.said kinds.Query x Initiator) ≡ false
     → option_and_then offer_in (body_said k kinds.Query x Initiator) ≡ None
 no_offer k x h = go (k.said kinds.Query x Initiator) h

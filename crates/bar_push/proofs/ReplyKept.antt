@@ -1,4 +1,4 @@
--- A REPLY is heard: the terms are complete.
+-- After a REPLY is heard, the terms are complete.
 use Rattle.std.proofs.Common.{◌≡◌, ◌+◌, ◌∙◌, ℕ, Bool, true, false, List, Option, Some, None, is_some, refl, sym, ap, subst}
 use Rattle.std.specs.Prelude.{nat_le, option_map, option_and_then}
 use Rattle.std.specs.Option.{option_map_or}
@@ -12,12 +12,12 @@ use Rattle.bar_window.specs.declared.exchange.XKind.TheVariants.{Balanced, Push}
 use Rattle.bar_window.specs.declared.terms.Terms.TheVariants as raw
 use Rattle.bar_window.specs.declared.window.Window.{Window}
 use Rattle.bar_window.specs.Terms.{Terms, plain_terms}
-use Rattle.bar_window.specs.Window.{members}
+use Rattle.bar_window.specs.Code.Window.{members}
 use Rattle.bar_wire.specs.Bodies.{history_in, offer_in, reply_in}
 use Rattle.bar_wire.specs.Datagram.{Datagram, Reply, Place, place_by, part_of, kind_of, is_of}
 use Rattle.bar_wire.specs.declared.kind.Kind.{Kind}
 use Rattle.bar_wire.specs.declared.kind.Kind.TheVariants as kinds
-use Rattle.bar_wire.specs.Views.{AreTermWindows, IsWindowIn}
+use Rattle.bar_wire.specs.Code.Views.{AreTermWindows, IsWindowIn}
 use Rattle.bar_rules.specs.Member.{Member}
 use Rattle.bar_rules.specs.Values.{datagram_bytes}
 use Rattle.bar_rules.specs.Peer.Admission.{is_row_met, terms_with}
@@ -26,12 +26,12 @@ use Rattle.bar_rules.specs.Peer.Knowledge.{Knowledge, this_round, has_said_of, w
 use Rattle.bar_rules.specs.Peer.Terms.{body_on, terms_by, offer_terms}
 use Rattle.bar_ledger.specs.declared.entry.Entry.{Entry}
 use Rattle.bar_ledger.specs.declared.ledger.Ledger.{Ledger}
-use Rattle.bar_ledger.specs.Hearing.{same_datagram, hears}
-use Rattle.bar_ledger.specs.Kept.{Kept}
-use Rattle.bar_ledger.specs.Memory.{MayHear, find_in}
-use Rattle.bar_ledger.specs.Recalls.{Recalls, kind_of_terms}
-use Rattle.bar_exchange.specs.Keeping.{MayKeep}
-use Rattle.bar_exchange.specs.Parts.{ChangesKept, with_heard_part}
+use Rattle.bar_ledger.specs.Code.Hearing.{same_datagram, hears}
+use Rattle.bar_ledger.specs.Code.Kept.{Kept}
+use Rattle.bar_ledger.specs.Code.Memory.{MayHear, find_in}
+use Rattle.bar_ledger.specs.Code.Recalls.{Recalls, kind_of_terms}
+use Rattle.bar_exchange.specs.Code.Keeping.{MayKeep}
+use Rattle.bar_exchange.specs.Code.Parts.{ChangesKept, with_heard_part}
 use Rattle.bar_exchange.proofs.Admitted.{IsAdmittedOf, admitted_at}
 use Rattle.bar_exchange.proofs.Hearing.{HearsFirst, hears_first, first_of}
 use Rattle.bar_exchange.proofs.KeptChanges.{IsThere, there, said_kept, may_hear_at, recalls_kept}
@@ -43,7 +43,7 @@ use Rattle.bar_exchange.proofs.Places.{IsAt, first_one, not_of_kind, is_of_itsel
 use Rattle.bar_exchange.proofs.Same.{body_same, other_body}
 use Rattle.bar_bytes.proofs.Options.{or-untold}
 
--- what is kept by the initiator of a push, whose QUERY is said
+-- the kept state of the initiator of a push, after it said its QUERY
 abbrev pub of_initiator : Window → Window → Window → Window → ℕ → Kept → Kept
 of_initiator young aged want give junk kept = record kept { entry = record kept.entry { role = Initiator; first_said = true; terms = raw.Push young aged want give junk } }
 
@@ -86,7 +86,7 @@ reply_one me k new d x bytes young aged old_want old_give want give old_junk jun
         body_same me k new other x role (a.said other x role)
         (a.heard other x role ∙ or-untold (k.heard other x role) (is_of other x role d.message) d (not_of_kind d.message other (ap (λ kind. same_datagram kind other) first.kind_is ∙ apart) x role))
 
--- The push of an admitted REPLY is kept.
+-- The admitted REPLY is of a push that is kept.
 pub record IsOfKept (me : Member) (k : Knowledge) (l : Ledger) (d : Datagram) (x : Exchange) : Type 0 where
   pub kind_is : x.kind ≡ Push
   pub of : IsAdmittedOf me k d x Responder
@@ -117,7 +117,7 @@ reply_of me k l d bytes x r want give junk m body at =
     let found = there me k l x m.recalled (said_kept me k l x kinds.Query Initiator m.recalled (is_near me k x m.member.session.shape.life_low row.2) row.1) in
     record { kind_is = row.0; of = of; kept = found.0; at = found.1 }
 
--- its terms are those of a push
+-- the terms of its entry are those of a push
 pub no_trade : (me : Member) (k : Knowledge) (l : Ledger) (d : Datagram) (x : Exchange) (e : Entry) (nonce : List ℕ) (ha hb : Window) → IsOfKept me k l d x
     → Some e ≡ option_map (λ (k : Kept). k.entry) (find_in l x) → e.terms ≡ raw.Balanced nonce ha hb → ⊥
 no_trade me k l d x e nonce ha hb o entry terms =

@@ -1,16 +1,16 @@
 //! Which datagrams of pushes a peer admits.
 ghost use Rattle.std.specs.Prelude.{◌≡◌, ◌+◌, ◌≤◌, ℕ, List, Some, true};
-ghost use Rattle.bar_seeds.specs.Checkpoints.{kept_round, MovesOn};
+ghost use Rattle.bar_seeds.specs.Code.Checkpoints.{kept_round, MovesOn};
 ghost use Rattle.bar_window.specs.declared.exchange.XKind.TheVariants.{Push};
 ghost use Rattle.bar_session.specs.Points.{AreSeeds};
 ghost use Rattle.bar_wire.specs.Bodies.{choice_round, query_round};
-ghost use Rattle.bar_wire.specs.Views.{plain, IsView};
+ghost use Rattle.bar_wire.specs.Code.Views.{plain, IsView};
 ghost use Rattle.bar_rules.specs.Member.{Member};
 ghost use Rattle.bar_rules.specs.Peer.Admission.{is_row_met};
 ghost use Rattle.bar_rules.specs.Peer.Knowledge.{Knowledge};
-ghost use Rattle.bar_store.specs.Holds.{Holds};
-ghost use Rattle.bar_ledger.specs.Recalls.{Recalls};
-ghost use Rattle.bar_exchange.specs.Placing.{StandsAt};
+ghost use Rattle.bar_store.specs.Code.Holds.{Holds};
+ghost use Rattle.bar_ledger.specs.Code.Recalls.{Recalls};
+ghost use Rattle.bar_exchange.specs.Code.Placing.{StandsAt};
 
 use crate::answer::admits_reply;
 use crate::asking::admits_query;
@@ -25,7 +25,7 @@ use bar_terms::PushAnswer;
 use bar_wire::{Body, Place, View};
 use std::sync::ledger::Ledger as StepLedger;
 
-/// Whether a datagram at a place of a push meets the row of its kind. It counts the steps along the seeds of a QUERY.
+/// Whether a datagram of a push meets the row of its kind. It counts the steps along the seeds for a QUERY.
 #[tactic(auto, using(bar_seeds::proofs::CheckpointLemmas::moves_none))]
 pub fn admit<L: StepLedger>(
     session: &Session,

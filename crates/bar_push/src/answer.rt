@@ -4,9 +4,9 @@ ghost use Rattle.std.specs.Option.{option_map_or};
 ghost use Rattle.bar_window.specs.declared.exchange.Role.TheVariants.{Initiator, Responder};
 ghost use Rattle.bar_window.specs.declared.exchange.XKind.TheVariants.{Push};
 ghost use Rattle.bar_window.specs.Terms.{plain_terms};
-ghost use Rattle.bar_window.specs.Window.{members};
+ghost use Rattle.bar_window.specs.Code.Window.{members};
 ghost use Rattle.bar_terms.specs.Table.{digests_of};
-ghost use Rattle.bar_wire.specs.Views.{AreTermWindows, IsWindowIn};
+ghost use Rattle.bar_wire.specs.Code.Views.{AreTermWindows, IsWindowIn};
 ghost use Rattle.bar_wire.specs.Bodies.{offer_in};
 ghost use Rattle.bar_wire.specs.Datagram.{Reply, exchange_by};
 ghost use Rattle.bar_wire.specs.declared.kind.Kind.TheVariants.{Query};
@@ -15,9 +15,9 @@ ghost use Rattle.bar_rules.specs.Values.{terms_ok};
 ghost use Rattle.bar_rules.specs.Peer.Admission.{body_said, is_row_met, terms_with};
 ghost use Rattle.bar_rules.specs.Peer.Agreement.{IsRecent};
 ghost use Rattle.bar_rules.specs.Peer.Knowledge.{Knowledge, table_of};
-ghost use Rattle.bar_store.specs.Holds.{Holds};
-ghost use Rattle.bar_ledger.specs.Lookups.{offer_of};
-ghost use Rattle.bar_ledger.specs.Recalls.{Recalls};
+ghost use Rattle.bar_store.specs.Code.Holds.{Holds};
+ghost use Rattle.bar_ledger.specs.Code.Lookups.{offer_of};
+ghost use Rattle.bar_ledger.specs.Code.Recalls.{Recalls};
 
 use bar_exchange::{ANSWER_DEADLINE, is_window_in};
 use bar_ledger::Ledger;
@@ -26,7 +26,7 @@ use bar_terms::{PushAnswer, Table, terms_ok};
 use bar_window::{Exchange, Role, Terms};
 use bar_wire::{Kind, Shape};
 
-/// Whether an answer makes valid terms with an offer.
+/// Whether an answer forms valid terms with an offer.
 fn fits(
     terms: &Terms,
     answer: PushAnswer,
@@ -60,7 +60,7 @@ fn fits(
     terms_ok(&made, x, cap, shape.life, table)
 }
 
-/// Whether an answer makes valid terms with what this peer offered in a push.
+/// Whether an answer forms valid terms with this peer's offer in a push.
 fn makes_terms(store: &Store, ledger: &Ledger, x: Exchange, answer: PushAnswer) -> bool
     ensures { (me : Member) (k : Knowledge) → Holds me k store.now → Recalls me k ledger.now → IsRecent me k x.round → x.kind ≡ Push
         → IsWindowIn me.session.shape x.round answer.want → IsWindowIn me.session.shape x.round answer.give
@@ -84,7 +84,7 @@ fn makes_terms(store: &Store, ledger: &Ledger, x: Exchange, answer: PushAnswer) 
     )
 }
 
-/// The row of a REPLY.
+/// Whether a REPLY meets its row.
 pub(crate) fn admits_reply(store: &Store, ledger: &Ledger, x: Exchange, answer: PushAnswer) -> bool
     ensures { (me : Member) (k : Knowledge) (from to r : ℕ) → Holds me k store.now → Recalls me k ledger.now → 2 ≤ me.session.shape.life
         → x ≡ exchange_by r Push Responder from to

@@ -1,20 +1,20 @@
 //! When a QUERY is admitted.
 ghost use Rattle.std.specs.Prelude.{◌≡◌, ◌+◌, ◌≤◌, ℕ, nat_lt, length, true};
 ghost use Rattle.bar_window.specs.declared.exchange.XKind.TheVariants.{Push};
-ghost use Rattle.bar_window.specs.Window.{members};
+ghost use Rattle.bar_window.specs.Code.Window.{members};
 ghost use Rattle.bar_terms.specs.Terms.{offer_ok};
-ghost use Rattle.bar_seeds.specs.Checkpoints.{kept_round, MovesOn};
+ghost use Rattle.bar_seeds.specs.Code.Checkpoints.{kept_round, MovesOn};
 ghost use Rattle.bar_session.specs.Points.{AreSeeds};
 ghost use Rattle.bar_wire.specs.Datagram.{Query};
 ghost use Rattle.bar_wire.specs.Grammar.{IsPeer};
-ghost use Rattle.bar_wire.specs.Views.{IsWindowIn};
+ghost use Rattle.bar_wire.specs.Code.Views.{IsWindowIn};
 ghost use Rattle.bar_rules.specs.Member.{Member};
 ghost use Rattle.bar_rules.specs.Peer.Admission.{is_row_met};
 ghost use Rattle.bar_rules.specs.Peer.Choices.{wanted_of};
 ghost use Rattle.bar_rules.specs.Peer.Knowledge.{Knowledge, this_round, answer_deadline, table_of};
-ghost use Rattle.bar_store.specs.Holds.{Holds};
-ghost use Rattle.bar_ledger.specs.Recalls.{Recalls};
-ghost use Rattle.bar_push.specs.Chosen.{is_offer_within};
+ghost use Rattle.bar_store.specs.Code.Holds.{Holds};
+ghost use Rattle.bar_ledger.specs.Code.Recalls.{Recalls};
+ghost use Rattle.bar_push.specs.Code.Chosen.{is_offer_within};
 
 use crate::choosing::answer_to_offer;
 use crate::offer::Offer;
@@ -63,7 +63,7 @@ fn is_offer_within(store: &Store, cap: u8, offer: &Offer) -> bool
     has_digests(store, &offer.aged)
 }
 
-/// Whether something of an offer is wanted.
+/// Whether the responder wants something of an offer.
 fn wants_some(store: &Store, cap: u8, offer: &Offer) -> bool
     ensures { (me : Member) (k : Knowledge) → Holds me k store.now → cap ≡ me.session.cap
         → this_round k ≤ offer.now.x.round + answer_deadline
@@ -74,7 +74,7 @@ fn wants_some(store: &Store, cap: u8, offer: &Offer) -> bool
     answer.want.size() > 0
 }
 
-/// The row of a QUERY. The steps along the seeds are counted last, where all else is met.
+/// Whether a QUERY meets its row. The steps along the seeds are counted last, if all other conditions hold.
 #[tactic(auto, using(bar_seeds::proofs::CheckpointLemmas::moves_none))]
 pub(crate) fn admits_query<L: StepLedger>(
     session: &Session,

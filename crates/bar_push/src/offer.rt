@@ -1,6 +1,6 @@
 use bar_window::{Exchange, Window};
 
-/// What the QUERY of a push offers and asks for: young and aged updates of the window of its round.
+/// The offer in the QUERY of a push: young updates that are offered and aged ones that are asked for, of the window of its round.
 #[derive(Clone, Copy, Debug)]
 pub(crate) struct Offer {
     pub(crate) x: Exchange,

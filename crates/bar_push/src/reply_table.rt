@@ -1,20 +1,20 @@
-//! What is answered to a datagram.
+//! The replies to the datagrams of pushes.
 ghost use Rattle.std.specs.Prelude.{◌≡◌, ◌||◌, [], ◌∷◌, Some};
 ghost use Rattle.bar_window.specs.declared.exchange.XKind.TheVariants.{Push};
-ghost use Rattle.bar_wire.specs.Views.{datagram};
+ghost use Rattle.bar_wire.specs.Code.Views.{datagram};
 ghost use Rattle.bar_rules.specs.Member.{Member};
 ghost use Rattle.bar_rules.specs.Peer.Knowledge.{Knowledge, this_round};
 ghost use Rattle.bar_rules.specs.Peer.Orders.{Answer, GiveCase};
 ghost use Rattle.bar_rules.specs.Peer.Replies.{orders_when, reply_orders};
-ghost use Rattle.bar_exchange.specs.Placing.{StandsAt};
-ghost use Rattle.bar_exchange.specs.Says.{orders_of_reply, AreFitting};
+ghost use Rattle.bar_exchange.specs.Code.Placing.{StandsAt};
+ghost use Rattle.bar_exchange.specs.Code.Says.{orders_of_reply, AreFitting};
 
 use bar_exchange::{REQUEST_DEADLINE, Say, Says, is_within};
 use bar_roster::Session;
 use bar_window::Exchange;
 use bar_wire::{Body, Kind, Place, View};
 
-/// To a QUERY: the REPLY and the CASE.
+/// The replies to a QUERY: the REPLY and the CASE.
 fn to_query(is_due: bool, x: Exchange) -> Says
     ensures fitting { x.kind ≡ Push → AreFitting result }
     ensures orders { orders_of_reply result ≡ orders_when is_due (Answer x ∷ GiveCase x ∷ []) }
@@ -34,7 +34,7 @@ fn to_query(is_due: bool, x: Exchange) -> Says
     }
 }
 
-/// What is answered to a datagram at a place of a push that is admitted now or comes again, in this round.
+/// The replies in this round to a datagram of a push that is admitted now or is a repeat.
 pub fn replies(session: &Session, round: u32, view: &View<'_>, place: Place, is_new: bool) -> Says
     requires place { StandsAt view.now (Some place) }
     requires kind { place.x.kind ≡ Push }

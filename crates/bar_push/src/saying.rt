@@ -1,4 +1,4 @@
-//! What a ledger is told of the requests and answers that this peer says.
+//! How a ledger records the requests and answers that this peer says.
 ghost use Rattle.std.specs.Prelude.{◌≡◌, ◌+◌, ◌≤◌, ℕ, List, Some, None, true, false, option_and_then};
 ghost use Rattle.bar_window.specs.declared.exchange.Role.TheVariants.{Initiator};
 ghost use Rattle.bar_window.specs.declared.update.UpdateId.{UpdateId};
@@ -11,10 +11,10 @@ ghost use Rattle.bar_rules.specs.Peer.Choices.{young_of, aged_of};
 ghost use Rattle.bar_rules.specs.Peer.Knowledge.{Knowledge, this_round, answer_deadline, with_said};
 ghost use Rattle.bar_rules.specs.Peer.Orders.{reply_to};
 ghost use Rattle.bar_rules.specs.Peer.Terms.{body_on};
-ghost use Rattle.bar_store.specs.Holds.{Holds};
-ghost use Rattle.bar_ledger.specs.Memory.{HasSame};
-ghost use Rattle.bar_ledger.specs.Recalls.{Recalls};
-ghost use Rattle.bar_exchange.specs.Keeping.{IsSaidNow, HasRoomLeft};
+ghost use Rattle.bar_store.specs.Code.Holds.{Holds};
+ghost use Rattle.bar_ledger.specs.Code.Memory.{HasSame};
+ghost use Rattle.bar_ledger.specs.Code.Recalls.{Recalls};
+ghost use Rattle.bar_exchange.specs.Code.Keeping.{IsSaidNow, HasRoomLeft};
 
 use crate::choosing::answer_to_offer;
 use bar_exchange::{answer, ask};
@@ -23,7 +23,7 @@ use bar_store::Store;
 use bar_terms::PushAnswer;
 use bar_window::{Exchange, Terms};
 
-/// Remembers that this peer says its QUERY, with the young updates that it holds and the aged ones that it lacks.
+/// Records that this peer says its QUERY, with the young updates that it holds and the aged ones that it lacks.
 pub fn say_query(ledger: &mut Ledger, store: &Store, x: Exchange)
     ensures learns { (me : Member) (k : Knowledge) (d : Datagram) (seed : List ℕ) → Holds me k store.now → Recalls me k ledger.old
         → IsSaidNow me k d Query x → d.message.body ≡ bodies.Query x.round seed (young_of me k x.round) (aged_of me k x.round)
@@ -45,8 +45,8 @@ pub fn say_query(ledger: &mut Ledger, store: &Store, x: Exchange)
     ask(ledger, x, terms);
 }
 
-/// Remembers that this peer says its REPLY to a QUERY, with what it wants and gives of the offer, where it wants something, and answers
-/// whether it does.
+/// If this peer wants something of the offer in a QUERY, records that it says its REPLY, with what it wants and gives. Returns whether it
+/// does.
 pub fn say_reply(ledger: &mut Ledger, store: &Store, x: Exchange) -> bool
     ensures learns { (me : Member) (k : Knowledge) (d : Datagram) (q : List UpdateId × List UpdateId) → Holds me k store.now
         → Recalls me k ledger.old → IsSaidNow me k d Reply x → option_and_then offer_in (body_on me k Query x Initiator) ≡ Some q

@@ -1,4 +1,4 @@
--- What is due where an input comes, and how time, rows and the work that remains go on.
+-- What is due for an input, and how the time, the datagrams in a row and the remaining work change.
 use Rattle.std.proofs.Common.{◌≡◌, ◌≢◌, ◌≤◌, ◌<◌, ℕ, ◌+◌, ◌-◌, ◌*◌, ◌==◌, nat_le, min, Bool, true, false, List, [], ◌∷◌, ◌++◌, length, refl, sym, arith}
 use Rattle.std.proofs.lemmas.Bool.Decides.{nat_tests}
 use Rattle.std.proofs.lemmas.Bool.{eqb-false}
@@ -6,7 +6,7 @@ use Rattle.bar_wire.specs.Inputs.{Input, Tick, Datagram}
 use Rattle.bar_record.specs.Pacing.{due, is_due, is_datagram, run_after, ticks_of}
 use Rattle.bar_record.proofs.PacingLemmas.{ticks_joined}
 
--- ---- the time, which stands still at the last tick
+-- ---- the time, which stops at the last tick
 
 -- the last tick wasn't taken yet
 pub not-late : (last ticks : ℕ) → false ≡ nat_le last ticks → ticks < last
@@ -16,7 +16,7 @@ not-late last ticks e = grind (arith, nat_tests)
 pub all-count : (taken : List Input) (last ticks : ℕ) → ticks ≡ min (ticks_of taken) last → ticks < last → ticks_of taken ≡ ticks
 all-count taken last ticks e early = omega arith
 
--- the tests of the time tell of the ticks
+-- what the tests of the time imply for the ticks
 pub ticks-early : (taken : List Input) (last ticks end : ℕ) → ticks ≡ min (ticks_of taken) end → end ≡ last → false ≡ nat_le end ticks →
     nat_le last (ticks_of taken) ≡ false
 ticks-early taken last ticks end e same early = let less : ticks < end = not-late end ticks early in grind (arith, nat_tests)
@@ -67,7 +67,7 @@ module _ (last ticks run : ℕ) (early : ticks < last) (d : Bool) where
       by_test true h = ([], tick-alone input is f h)
       by_test false h = (input ∷ [], tick-before input is f h)
 
-  -- the time, before a tick and behind it
+  -- the time before and after a tick
   module _ (taken : List Input) (timed : ticks ≡ min (ticks_of taken) last) (end at : ℕ) (same : end ≡ last)
       (timed_then : at ≡ min (ticks_of (taken ++ Tick ∷ [])) end) where
     one-tick : at ≡ ticks + 1
@@ -78,14 +78,14 @@ module _ (last ticks run : ℕ) (early : ticks < last) (d : Bool) where
         due last ticks run input ≡ Tick ∷ []
     due-last input is f late = tick-alone input is f (sym (rw (same, one-tick) at late))
 
-    -- it isn't, and the input is taken behind it
+    -- it isn't the last, and the input is taken after it
     pub due-both : (input : Input) → d ≡ is_datagram input → true ≡ is_due run d → false ≡ nat_le end at →
         due last ticks run input ≡ Tick ∷ input ∷ []
     due-both input is f on = tick-before input is f (sym (rw (same, one-tick) at on))
 
--- ---- rows, and the work that remains
+-- ---- datagrams in a row, and the remaining work
 
--- no row is too long
+-- there are never too many datagrams in a row
 pub row-stays : (run : ℕ) (d : Bool) → run ≤ 65536 → run_after run d ≤ 65536
 row-stays run false few = omega arith
 row-stays run true few = by_test (run == 65536) refl
@@ -108,7 +108,7 @@ module _ (last ticks run : ℕ) (early : ticks < last) (few : run ≤ 65536) whe
       by_tests true false e f = let h = early-test last ticks early in rw (h, e, f) (omega arith)
       by_tests false d e f = let h = early-test last ticks early in let k : run ≢ 65536 = eqb-false run 65536 e in rw (h, e) (omega arith)
 
-  -- less is left behind each input
+  -- less work is left after each input
   pub less-work : (taken : List Input) (input : Input) (end at row : ℕ) → ticks ≡ min (ticks_of taken) last → end ≡ last →
       at ≡ min (ticks_of (taken ++ due last ticks run input)) end → row ≡ run_after run (is_datagram input) →
       (end - at) * 65537 + (65536 - row) < (last - ticks) * 65537 + (65536 - run)
@@ -117,7 +117,7 @@ module _ (last ticks run : ℕ) (early : ticks < last) (few : run ≤ 65536) whe
       let same_left : end - at ≡ last - (ticks + ticks_of (due last ticks run input)) = omega arith in
       rw (same_left, is) (due-less input)
 
-  -- no tick has more than a row behind it
+  -- each tick is followed by at most a full row of datagrams
   pub few-due : (n : ℕ) (input : Input) → n ≤ 65537 * ticks + run →
       n + length (due last ticks run input) ≤ 65537 * (ticks + ticks_of (due last ticks run input)) + run_after run (is_datagram input)
   few-due n Tick h = let e = early-test last ticks early in rw e (omega arith)

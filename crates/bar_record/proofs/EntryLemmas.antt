@@ -1,16 +1,16 @@
--- The entries at the front of some bytes, one after another.
+-- The first entries of some bytes, one after another.
 use Rattle.std.proofs.Common.{◌≡◌, ℕ, zero, suc, ◌-◌, ◌<◌, ◌≤◌, List, [], ◌∷◌, length, refl, arith}
 use Rattle.bar_wire.specs.Inputs.{Input}
 use Rattle.bar_record.specs.Recording.{First, NoByte, End, Entry, NoEntry, first_of}
-use Rattle.bar_record.specs.Items.{entries, entries_by}
+use Rattle.bar_record.specs.Code.Items.{entries, entries_by}
 
--- one entry, and those behind it
+-- one entry, and those after it
 pub entries_entry : (n : ℕ) (bytes rest : List ℕ) (input : Input) → 0 < n → first_of bytes ≡ Entry input rest → entries n bytes ≡ input ∷ entries (n - 1) rest
 unfolding entries
 entries_entry zero bytes rest input some is = absurd (omega arith)
 entries_entry (suc n) bytes rest input some is = let e : suc n - 1 ≡ n = omega arith in rw (e, is) refl
 
--- nothing behind what is no entry
+-- nothing follows what is no entry
 pub entries_no_byte : (n : ℕ) (bytes : List ℕ) → first_of bytes ≡ NoByte → entries n bytes ≡ []
 unfolding entries
 entries_no_byte zero bytes is = refl

@@ -23,7 +23,7 @@ eight (a ∷ b ∷ c ∷ d ∷ e ∷ f ∷ g ∷ h ∷ i ∷ js) long = absurd (
 pub length_head : (id : List ℕ) (party : ℕ) → length id ≡ 8 → length (head_bytes id party) ≡ 15
 length_head id party long = simp (length-append, length_u16) (omega (arith, long))
 
--- fewer bytes than a head has don't begin with it
+-- if there are fewer bytes than in a head, they don't begin with one
 pub no_head : (bytes id : List ℕ) (party : ℕ) → length id ≡ 8 → length bytes < 15 → bytes_eq (take 15 bytes) (head_bytes id party) ≡ false
 no_head bytes id party long short = elim (cases_Bool (bytes_eq (take 15 bytes) (head_bytes id party))) [
   | inl same ↦

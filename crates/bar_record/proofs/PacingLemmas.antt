@@ -10,9 +10,9 @@ use Rattle.bar_record.specs.declared.fault.RecordFault.{RecordFault}
 use Rattle.bar_record.specs.declared.fault.RecordFault.TheVariants.{AfterEnd, BadHead, AfterLast}
 use Rattle.bar_record.specs.Recording.{First, NoByte, End, Entry, NoEntry, head_bytes, first_of, before, ticks_put, inputs_by, inputs_from, IsInRange, IsTakenWhole, StaysInRange}
 
--- ---- what is read is taken whole
+-- ---- everything that is read is taken
 
--- an input that doesn't stand after the last tick is taken, with the tick that is put before it
+-- an input that isn't after the last tick is taken, with the tick that is inserted before it
 due_whole : (last ticks run : ℕ) (input : Input) → nat_le last (ticks + ticks_put run input) ≡ false → due last ticks run input ≡ with_tick run input
 due_whole last ticks run Tick early = let test : nat_le last ticks ≡ false = grind (arith, nat_tests, early) in rw test refl
 due_whole last ticks run (Datagram bytes) early =
@@ -22,7 +22,7 @@ due_whole last ticks run (Datagram bytes) early =
       | inr is_not ↦ rw (test, is_not) refl
     ]
 
--- what is read behind an entry is taken whole, so what is read with it is
+-- if everything that is read after an entry is taken, so is everything that is read with it
 whole_before : (last ticks run : ℕ) (input : Input) (r : Result (List Input) RecordFault) (inputs : List Input) → nat_le last (ticks + ticks_put run input) ≡ false
     → ((others : List Input) → r ≡ Ok others → paced_from last (ticks + ticks_of (with_tick run input)) (run_after run (is_datagram input)) others
     ≡ with_ticks (run_after run (is_datagram input)) others)
@@ -32,7 +32,7 @@ whole_before last ticks run input (Ok others) inputs early behind is =
     let e : inputs ≡ input ∷ others = cc in
     rw (e, due_whole last ticks run input early, behind others refl) refl
 
--- what is read by what some bytes begin with is taken whole, if what is read of the rest is
+-- everything that is read from the first entry on is taken, if everything that is read of the rest is
 whole_by : (most last ticks run at : ℕ) (first : First) (inputs : List Input)
     → ((ticks run at : ℕ) (bytes : List ℕ) (inputs : List Input) → inputs_from most last ticks run at bytes ≡ Ok inputs
     → paced_from last ticks run inputs ≡ with_ticks run inputs)
@@ -98,7 +98,7 @@ few_ticks last ticks run (input ∷ inputs) few =
     let behind = run_after run (is_datagram input) in
     omega (arith, ticks_joined now (paced_from last count behind inputs), few_ticks last count behind inputs (few_due last ticks run input few))
 
--- what is paced already stays as it is, after so many ticks and so many datagrams in a row
+-- what is paced already stays the same, after so many ticks and so many datagrams in a row
 again_from : (last ticks run : ℕ) (inputs : List Input) → paced_from last ticks run (paced_from last ticks run inputs) ≡ paced_from last ticks run inputs
 again_from last ticks run [] = refl
 again_from last ticks run (Tick ∷ inputs) = elim (cases_Bool (nat_le last ticks)) [
@@ -154,7 +154,7 @@ few_from last ticks run (Datagram bytes ∷ inputs) few = elim (cases_Bool (nat_
 pub few_inputs : IsFew
 few_inputs last inputs = omega (arith, few_from last 0 0 inputs (omega arith))
 
--- ---- each datagram stays as it is
+-- ---- each datagram stays the same
 
 ranged_from : (last ticks run : ℕ) (inputs : List Input) → AllByRecursion IsInRange inputs → AllByRecursion IsInRange (paced_from last ticks run inputs)
 ranged_from last ticks run [] fit = tt

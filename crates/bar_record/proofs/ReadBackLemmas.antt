@@ -1,4 +1,4 @@
--- What is written of paced inputs is read back.
+-- The recording of paced inputs is read back.
 use Rattle.std.proofs.Common.{◌≡◌, ℕ, suc, ◌+◌, ◌-◌, ◌<◌, ◌≤◌, ◌^◌, ◌==◌, nat_le, false, true, List, [], ◌∷◌, ◌++◌, length, take, drop, refl, ap, ◌∙◌, inl, inr, arith, append_assoc, length-append, Ok}
 use Rattle.std.specs.Prelude.{bytes_eq}
 use Rattle.std.specs.List.{flat_map, AllByRecursion}
@@ -53,7 +53,7 @@ first_end = refl
 abbrev written : List Input → List ℕ
 written inputs = flat_map entry_bytes inputs ++ 0 ∷ []
 
--- after so many ticks, and so many datagrams in a row, the inputs are read back wherever they stand
+-- after so many ticks, and so many datagrams in a row, the inputs are read back wherever they are
 abbrev AreReadBack : ℕ → ℕ → ℕ → List Input → Type 0
 AreReadBack last ticks run inputs = (most at : ℕ) → length inputs < most → inputs_from most last ticks run at (written inputs) ≡ Ok inputs
 
@@ -61,7 +61,7 @@ none_back : (last ticks run : ℕ) → AreReadBack last ticks run []
 none_back last ticks run most at some =
     reads_by most last ticks run at (0 ∷ []) some ∙ ap (inputs_by (inputs_from (most - 1) last) last ticks run at) first_end
 
--- an input that doesn't come after the last tick, before inputs that are read back
+-- an input that isn't after the last tick, before inputs that are read back
 more_back : (last ticks run : ℕ) (input : Input) (inputs : List Input) → IsInRange input → nat_le last (ticks + ticks_put run input) ≡ false
     → AreReadBack last (ticks + ticks_of (with_tick run input)) (run_after run (is_datagram input)) inputs
     → AreReadBack last ticks run (input ∷ inputs)
@@ -116,14 +116,14 @@ paced_back last ticks run (Datagram bytes ∷ inputs) fit = elim (cases_Bool (na
 
 -- ---- a recording
 
--- each entry has a byte at least
+-- each entry has at least one byte
 entries_many : (inputs : List Input) → length inputs ≤ length (flat_map entry_bytes inputs)
 entries_many [] = omega arith
 entries_many (Tick ∷ inputs) = omega (arith, entries_many inputs)
 entries_many (Datagram bytes ∷ inputs) =
     omega (arith, entries_many inputs, length-append (entry_bytes (Datagram bytes)) (flat_map entry_bytes inputs))
 
--- behind the head the inputs are read
+-- after the head, the inputs are read
 read_behind : (id bytes rest : List ℕ) (party last : ℕ) → take 15 bytes ≡ head_bytes id party → drop 15 bytes ≡ rest
     → recording_of id party last bytes ≡ inputs_from (suc (length rest)) last 0 0 15 rest
 read_behind id bytes rest party last front behind =

@@ -14,7 +14,7 @@ use Rattle.bar_record.specs.declared.fault.RecordFault.{RecordFault}
 use Rattle.bar_record.specs.declared.fault.RecordFault.TheVariants.{NoEnd, AfterLast}
 use Rattle.bar_record.specs.Recording.{First, Entry, NoEntry, End, entry_bytes, datagram_first, sized_first, marked_first, first_of, inputs_from, inputs_by, before, ticks_put}
 use Rattle.bar_record.specs.Pacing.{is_datagram, is_due, run_after, ticks_in, ticks_of, with_tick}
-use Rattle.bar_record.specs.Items.{entries}
+use Rattle.bar_record.specs.Code.Items.{entries}
 
 -- inputs before those of a reading
 abbrev pub after : List Input → Result (List Input) RecordFault → Result (List Input) RecordFault
@@ -87,19 +87,19 @@ length_entry (mark ∷ bytes) rest input is = omega (arith, length_marked mark b
 
 -- ---- the ticks of an entry
 
--- an input's ticks are those that are put before it and its own
+-- an input's ticks are those that are inserted before it and its own
 pub ticks_with : (run : ℕ) (input : Input) → ticks_of (with_tick run input) ≡ ticks_put run input + ticks_in input
 ticks_with run input = elim (cases_Bool (is_due run (is_datagram input))) [
   | inl due ↦ rw due (omega arith)
   | inr none ↦ rw none (omega arith)
 ]
 
--- an input and what is put before it have one tick at most
+-- an input and what is inserted before it have at most one tick
 pub few_with : (run : ℕ) (input : Input) → ticks_put run input + ticks_in input ≤ 1
 few_with run event.Tick = omega arith
 few_with run (event.Datagram bytes) = elim (cases_Bool (run == 65536)) [ inl due ↦ rw due (omega arith) | inr none ↦ rw none (omega arith) ]
 
--- ---- how far a reading has come
+-- ---- the progress of a reading
 
 -- what is read of the whole is the entries so far and what is read of the rest
 pub record IsReadTo (whole : List ℕ) (last i ticks run : ℕ) (rest : List ℕ) : Type 0 where
@@ -121,7 +121,7 @@ read_none whole last =
       early = omega arith;
     }
 
--- the reading ends by what the rest begins with
+-- the reading ends, depending on what the rest begins with
 pub read_by : (whole rest : List ℕ) (last i ticks run : ℕ) (first : First) → IsReadTo whole last i ticks run rest → i < length whole + 1
     → first_of rest ≡ first
     → inputs_from (suc (length whole)) last 0 0 15 whole
@@ -132,7 +132,7 @@ read_by whole rest last i ticks run first h below is =
     (reads_by (suc (length whole) - i) last ticks run (15 + (length whole - length rest)) rest some
     ∙ ap (inputs_by (inputs_from (suc (length whole) - i - 1) last) last ticks run (15 + (length whole - length rest))) is)
 
--- an entry that stands after the last tick ends the reading
+-- an entry after the last tick ends the reading
 pub read_late : (whole rest others : List ℕ) (last i ticks run put : ℕ) (input : Input) → IsReadTo whole last i ticks run rest → i < length whole + 1
     → put ≡ ticks_put run input → last - ticks ≤ put → first_of rest ≡ Entry input others
     → inputs_from (suc (length whole)) last 0 0 15 whole ≡ Err (AfterLast (15 + (length whole - length rest)))
@@ -172,13 +172,13 @@ read_more whole rest others last i ticks run put input h below is_put early is =
       early = omega (arith, few_with run input);
     }
 
--- as many entries as may be read are read, and no end
+-- as many entries as allowed are read, without an end
 pub read_out : (whole rest : List ℕ) (last ticks run : ℕ) → IsReadTo whole last (length whole + 1) ticks run rest
     → inputs_from (suc (length whole)) last 0 0 15 whole ≡ Err NoEnd
 unfolding inputs_from
 read_out whole rest last ticks run h = let none : suc (length whole) - (length whole + 1) ≡ 0 = omega arith in rw none at h.read
 
--- the end, with nothing behind it
+-- the end, with nothing after it
 pub read_end : (whole rest others : List ℕ) (last i ticks run : ℕ) → IsReadTo whole last i ticks run rest → i < length whole + 1 → first_of rest ≡ End others
     → (length others == 0) ≡ true → inputs_from (suc (length whole)) last 0 0 15 whole ≡ Ok (entries i whole)
 read_end whole rest others last i ticks run h below is empty =

@@ -3,7 +3,7 @@ use Rattle.std.proofs.Common.{◌≡◌, [], ◌∷◌, refl}
 use Rattle.bar_wire.specs.Inputs.{Tick, Datagram}
 use Rattle.bar_record.specs.Pacing.{paced_from}
 
--- a tick comes before the 65,537th datagram in a row
+-- a tick is inserted before the 65,537th datagram in a row
 a_tick_in_a_long_row : paced_from 120 0 65536 (Datagram [] ∷ Datagram [] ∷ []) ≡ Tick ∷ Datagram [] ∷ Datagram [] ∷ []
 a_tick_in_a_long_row = refl
 

@@ -1,4 +1,3 @@
 pub mod Recording
-pub mod Items
-pub mod Inputs
+pub mod Code
 pub mod Pacing

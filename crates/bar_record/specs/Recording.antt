@@ -42,14 +42,14 @@ pub data First : Type 0 where
   Entry : (input : Input) → (rest : List ℕ) → First
   NoEntry : First
 
--- so many bytes, and what follows them, where they are all there and not too many
+-- so many bytes, and what follows them, if they are all there and not too many
 abbrev pub datagram_first : ℕ → List ℕ → First
 datagram_first len rest =
     if nat_le len largest_datagram
     then (if nat_le len (length rest) then Entry (event.Datagram (take len rest)) (drop len rest) else NoEntry)
     else NoEntry
 
--- what stands behind the mark of a datagram: its length in two bytes, and its bytes
+-- what follows the mark of a datagram: its length in two bytes, and its bytes
 abbrev pub sized_first : List ℕ → First
 sized_first rest = if nat_le 2 (length rest) then datagram_first (first_u16 rest) (drop 2 rest) else NoEntry
 
@@ -61,7 +61,7 @@ unfoldable pub first_of : List ℕ → First
 first_of [] = NoByte
 first_of (mark ∷ rest) = marked_first mark rest
 
--- how many ticks are put before an input, after so many datagrams in a row
+-- how many ticks are inserted before an input, after so many datagrams in a row
 abbrev pub ticks_put : ℕ → Input → ℕ
 ticks_put run input = if is_due run (is_datagram input) then 1 else 0
 
@@ -70,8 +70,8 @@ abbrev pub before : Input → Result (List Input) RecordFault → Result (List I
 before input (Ok inputs) = Ok (input ∷ inputs)
 before input (Err fault) = Err fault
 
--- The inputs by what some bytes begin with, where these bytes begin at a place, after so many ticks and so many datagrams in a row. Ticks
--- count as paced: nothing but the end may follow the last of them, be it in the bytes or put before an entry.
+-- The inputs, given the first entry of bytes at this place, after so many ticks and so many datagrams in a row. Ticks are counted as paced:
+-- only the end may follow the last of them, whether it is in the bytes or inserted before an entry.
 abbrev pub inputs_by : (ℕ → ℕ → ℕ → List ℕ → Result (List Input) RecordFault) → ℕ → ℕ → ℕ → ℕ → First → Result (List Input) RecordFault
 inputs_by rest_of last ticks run at NoByte = Err NoEnd
 inputs_by rest_of last ticks run at (End rest) = if length rest == 0 then Ok [] else Err AfterEnd
@@ -81,30 +81,30 @@ inputs_by rest_of last ticks run at (Entry input rest) =
     else before input
     (rest_of (ticks + ticks_of (with_tick run input)) (run_after run (is_datagram input)) (at + length (entry_bytes input)) rest)
 
--- the inputs whose entries and end stand in the bytes, of which so many at most are read
+-- the inputs of the entries in the bytes, which are followed by the end; at most so many are read
 unfoldable pub inputs_from : ℕ → ℕ → ℕ → ℕ → ℕ → List ℕ → Result (List Input) RecordFault
 inputs_from zero last ticks run at bytes = Err NoEnd
 inputs_from (suc most) last ticks run at bytes = inputs_by (inputs_from most last) last ticks run at (first_of bytes)
 
--- The inputs of a recording, or its first fault from the left. Each entry has a byte at least, so no more entries are read than there are
+-- The inputs of a recording, or its first fault from the left. Each entry has at least one byte, so no more entries are read than there are
 -- bytes.
 abbrev pub recording_of : List ℕ → ℕ → ℕ → List ℕ → Result (List Input) RecordFault
 recording_of id party last bytes =
     if bytes_eq (take 15 bytes) (head_bytes id party)
     then inputs_from (suc (length (drop 15 bytes))) last 0 0 15 (drop 15 bytes) else Err BadHead
 
--- Pacing leaves out nothing of a recording: it puts in the ticks that are due, and no more.
+-- Pacing drops nothing of a recording: it only inserts the ticks that are due.
 abbrev pub IsTakenWhole : Type 0
 IsTakenWhole =
     (id bytes : List ℕ) (party last : ℕ) (inputs : List Input) → recording_of id party last bytes ≡ Ok inputs →
     paced last inputs ≡ with_ticks 0 inputs
 
--- What is written of paced inputs is read back as these.
+-- The recording of paced inputs is read back as these inputs.
 abbrev pub ReadsBack : Type 0
 ReadsBack =
     (id : List ℕ) (party last : ℕ) (inputs : List Input) → length id ≡ 8 → AllByRecursion IsInRange inputs →
     recording_of id party last (recording_bytes id party (paced last inputs)) ≡ Ok (paced last inputs)
 
--- Pacing leaves each datagram as it is, so none has more bytes than one can have.
+-- Pacing doesn't change datagrams, so if none is too long before, none is afterwards.
 abbrev pub StaysInRange : Type 0
 StaysInRange = (last : ℕ) (inputs : List Input) → AllByRecursion IsInRange inputs → AllByRecursion IsInRange (paced last inputs)

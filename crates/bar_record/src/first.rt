@@ -1,12 +1,12 @@
 //! The first entry of some bytes.
 ghost use Rattle.std.specs.Prelude.{◌≡◌};
-ghost use Rattle.bar_record.specs.Items.{plain_first};
+ghost use Rattle.bar_record.specs.Code.Items.{plain_first};
 ghost use Rattle.bar_record.specs.Recording.{datagram_first, first_of, sized_first};
 
 use bar_bytes::split_u16;
 use bar_wire::{Input, LARGEST_DATAGRAM};
 
-/// What some bytes begin with, and what follows it.
+/// The first entry of some bytes, and what follows it.
 #[derive(Clone, Copy)]
 pub enum First<'a> {
     NoByte,
@@ -30,7 +30,7 @@ fn datagram_first(len: u16, rest: &[u8]) -> First<'_>
     First::Entry(Input::Datagram(bytes), rest)
 }
 
-/// What stands behind the mark of a datagram.
+/// What follows the mark of a datagram.
 fn sized_first(rest: &[u8]) -> First<'_>
     ensures { plain_first result ≡ sized_first rest.now }
 {
@@ -41,7 +41,7 @@ fn sized_first(rest: &[u8]) -> First<'_>
     datagram_first(len, bytes)
 }
 
-/// What some bytes begin with.
+/// The first entry of some bytes.
 #[tactic(auto, unfolding(crate::specs::Recording::first_of))]
 pub fn first_of(bytes: &[u8]) -> First<'_>
     ensures { plain_first result ≡ first_of bytes.now }

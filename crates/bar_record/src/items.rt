@@ -15,7 +15,7 @@ pub struct Items<'a> {
 impl<'a> Iterator for Items<'a> {
     type Item = Input<'a>;
 
-    ghost use Rattle.bar_record.specs.Inputs.{inputs_left};
+    ghost use Rattle.bar_record.specs.Code.Inputs.{inputs_left};
 
     ghost next_gives = { YieldsFirstBy plain_input inputs_left };
 

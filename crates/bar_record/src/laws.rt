@@ -1,14 +1,14 @@
-//! What holds of pacing and of recordings themselves.
+//! Laws of pacing and of recordings.
 
 ghost use Rattle.bar_record.specs.Pacing.{EndsAtTheLast, IsFew, StaysPaced};
 ghost use Rattle.bar_record.specs.Recording.{IsTakenWhole, ReadsBack, StaysInRange};
 
-/// Where a recording is read, pacing leaves out none of its inputs.
+/// If a recording is read, pacing drops none of its inputs.
 pub fn recordings_are_taken_whole()
     ensures { IsTakenWhole }
 {}
 
-/// Paced inputs have no more ticks than up to the last.
+/// The number of ticks in paced inputs is at most that of the last tick.
 pub fn paced_inputs_end_at_the_last_tick()
     ensures { EndsAtTheLast }
 {}
@@ -18,17 +18,17 @@ pub fn paced_inputs_stay_paced()
     ensures { StaysPaced }
 {}
 
-/// For each tick up to the last there are 65,537 paced inputs at most: 65,536 datagrams and the tick.
+/// For each tick up to the last there are at most 65,537 paced inputs: 65,536 datagrams and the tick.
 pub fn paced_inputs_are_few()
     ensures { IsFew }
 {}
 
-/// Paced inputs have no datagram of more than 65,507 bytes where the inputs have none.
+/// If no input is a datagram of more than 65,507 bytes, neither is any paced input.
 pub fn pacing_keeps_the_range()
     ensures { StaysInRange }
 {}
 
-/// The recording of paced inputs is read back as these inputs. Each datagram has at most 65,507 bytes.
+/// The recording of paced inputs is read back as these inputs. Each datagram must have at most 65,507 bytes.
 pub fn recordings_read_back()
     ensures { ReadsBack }
 {}

@@ -1,11 +1,11 @@
-//! Pacing of inputs.
+//! Pacing of inputs: a tick is inserted after too many datagrams in a row.
 
 use std::marker::Model;
 
-/// How many datagrams may stand in a row.
+/// The most datagrams in a row.
 const MOST_IN_A_ROW: u32 = 65_536;
 
-/// Counts the datagrams that stand in a row.
+/// Counts consecutive datagrams.
 #[derive(Debug, Drop)]
 pub struct Paced {
     run: u32,
@@ -25,15 +25,15 @@ impl Paced {
     ghost use Rattle.std.specs.Prelude.{◌≡◌};
     ghost use Rattle.bar_record.specs.Pacing.{is_due, run_after};
 
-    /// No datagram so far.
+    /// No datagrams so far.
     pub fn new() -> Paced
         ensures { result ≡ 0 }
     {
         Paced { run: 0 }
     }
 
-    /// Counts an input, a datagram or a tick, and answers whether a tick is to be taken before it: where it is a datagram and 65,536
-    /// datagrams stand before it in a row. Then it counts as the first after that tick.
+    /// Counts an input, a datagram or a tick, and returns whether a tick is to be taken before it: that is so if it is a datagram after
+    /// 65,536 datagrams in a row. It then counts as the first one after that tick.
     pub fn due(&mut self, is_datagram: bool) -> bool
         ensures answer { result ≡ is_due self.old is_datagram }
         ensures count { self.new ≡ run_after self.old is_datagram }

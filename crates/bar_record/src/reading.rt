@@ -1,6 +1,6 @@
 //! Reading a recording.
 ghost use Rattle.std.specs.Prelude.{◌≡◌, ◌≤◌, Ok, Err, IfOk, IfErr, suc, length};
-ghost use Rattle.bar_record.specs.Inputs.{inputs_left};
+ghost use Rattle.bar_record.specs.Code.Inputs.{inputs_left};
 ghost use Rattle.bar_record.specs.Pacing.{is_datagram, run_after, ticks_in};
 ghost use Rattle.bar_record.specs.Recording.{head_bytes, inputs_from, recording_of, ticks_put};
 ghost use Rattle.bar_wire.specs.Inputs.{plain_input};
@@ -32,7 +32,7 @@ fn ticks_in(input: &Input<'_>) -> u32
     }
 }
 
-/// How many ticks are put before an input, which is counted.
+/// How many ticks are inserted before an input, which is counted.
 fn ticks_put(paced: &mut Paced, input: &Input<'_>) -> u32
     ensures value { result ≡ ticks_put paced.old (plain_input input.now) }
     ensures one { result ≤ 1 }
@@ -42,7 +42,7 @@ fn ticks_put(paced: &mut Paced, input: &Input<'_>) -> u32
     u32::from(paced.due(is_datagram))
 }
 
-/// The inputs of the entries behind a head, with their end.
+/// The inputs of the entries after a head, up to the end.
 fn entries_of(bytes: &[u8], last: u32) -> Result<Items<'_>, RecordFault>
     ensures ok { IfOk result (λ items. inputs_from (suc (length bytes.now)) last 0 0 15 bytes.now ≡ Ok (inputs_left items)) }
     ensures err { IfErr result (λ fault. inputs_from (suc (length bytes.now)) last 0 0 15 bytes.now ≡ Err fault) }
@@ -75,8 +75,8 @@ fn entries_of(bytes: &[u8], last: u32) -> Result<Items<'_>, RecordFault>
     Err(RecordFault::NoEnd)
 }
 
-/// Reads a party's recording, or tells its first fault from the left; `last` is the number of the session's last tick. Ticks count as
-/// paced: with those that are put before datagrams.
+/// Reads a party's recording, or reports its first fault from the left; `last` is the number of the session's last tick. Ticks are counted
+/// as paced, including those that are inserted before datagrams.
 pub fn read<'a>(
     bytes: &'a [u8],
     id: &[u8; 8],

@@ -9,8 +9,8 @@ use bar_wire::{Input, LARGEST_DATAGRAM};
 /// The most bytes of an entry: its mark, the length of a datagram, and the datagram.
 pub const LARGEST_ENTRY: usize = 3 + LARGEST_DATAGRAM as usize;
 
-/// Writes the entry of an input to the front of `out`, and answers how many bytes it has: one for a tick, and three more than a datagram.
-/// A datagram has at most 65,507 bytes.
+/// Writes the entry of an input at the start of `out`, and returns how many bytes it has: one for a tick, and three more than a datagram
+/// has. A datagram must have at most 65,507 bytes.
 pub fn entry(input: &Input<'_>, out: &mut [u8]) -> usize
     requires range { IsInRange (plain_input input.now) }
     requires room { length (entry_bytes (plain_input input.now)) ≤ length out.old }

@@ -26,11 +26,11 @@ at_test : (o : Option (List ℕ)) (row : List ℕ) → Decides (option_map_or (�
 at_test None row = (λ h. absurd (true≢false (sym h)), λ e. absurd (none-some row e))
 at_test (Some held) row = (λ h. ap Some ((bytes_eq-Decides held row).0 h), λ e. let same : held ≡ row = cc in (bytes_eq-Decides held row).1 same)
 
--- the test of a place decides what stands there
+-- the test of a place decides what is at that place
 pub row_test : (rows : List (List ℕ)) (place : ℕ) (row : List ℕ) → Decides (is_at rows place row) (slice_get rows place ≡ Some row)
 row_test rows place row = at_test (slice_get rows place) row
 
--- what is compared is what stands at the place
+-- what is compared is what is at the place
 pub row_at : (rows : List (List ℕ)) (place : ℕ) (row held : List ℕ) (b : Bool) → slice_get rows place ≡ Some held → Decides b (held ≡ row) → b ≡ is_at rows place row
 row_at rows place row held b e same = rw e (one_answer _ _ same (bytes_eq-Decides held row))
 
@@ -67,7 +67,7 @@ of_session s false k h =
 
 -- ---- what is read
 
--- what is read of a key of the session is its
+-- what is read of a key of the session belongs to the session
 pub named_ours : (s : SessionData) (caster : Bool) (r : Result KeyData KeyFileFault) (k : KeyData) → named_key s caster r ≡ Ok k
     → (r ≡ Ok k) × (is_of_session s caster k ≡ true)
 named_ours s caster (Err e) k h = cc
@@ -98,7 +98,7 @@ checked_fits s fresh (Ok d) k h = by_tests (fits s d.party d.secret) (d.spent &&
     by_tests true true is e = cc
     by_tests true false is e = (d, record { read = refl; held = is; is = cc })
 
--- the session holds the secret of a key that is its own and fits
+-- the session holds the secret of a key that belongs to it and fits
 pub held_of : (s : SessionData) (caster : Bool) (bytes : List ℕ) (d : KeyData) → session_key_of s caster bytes ≡ Ok d
     → fits s d.party d.secret ≡ true → IsHeldBy s caster (secrets_in s d.party d.secret)
 held_of s caster bytes d named held =
@@ -111,7 +111,7 @@ held_where_accepted s caster fresh bytes k h =
     let p = checked_fits s fresh (session_key_of s caster bytes) k h in
     subst (IsHeldBy s caster) p.1.is (held_of s caster bytes p.0 p.1.read p.1.held)
 
--- what is made of a key of the session, where its public key and its anchor are the session's
+-- the keys that are made for a key of the session, if its public key and its anchor are the session's
 pub key_file_of_session : (s : SessionData) (caster : Bool) (bytes : List ℕ) (k : KeyData) (file : KeyFile) → session_key_of s caster bytes ≡ Ok k
     → IsMadeFor s k.party k.secret file → fits s file.secrets.party file.secrets.secret ≡ true → IsKeyFileOf s caster file
 key_file_of_session s caster bytes k file named made held =
@@ -127,6 +127,6 @@ key_file_of_session s caster bytes k file named made held =
       fits = (fits_test s file.secrets.party file.secrets.secret).0 held;
     }
 
--- the session holds the secret of a key file of its own
+-- the session holds the secret of a key file that belongs to it
 pub file_held : (s : SessionData) (caster : Bool) (file : KeyFile) → IsKeyFileOf s caster file → IsHeldBy s caster file.secrets
 file_held s caster file is = record { id = ap (λ (x : Secrets). x.id) is.made.secrets; party = is.party; role = is.role; fits = is.fits }

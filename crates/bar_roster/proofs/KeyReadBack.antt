@@ -28,7 +28,7 @@ use Rattle.bar_roster.specs.KeyText.{IsInRange, any_key_data, key_text_of, key_r
 use Rattle.bar_session.proofs.Levels.{lms_most, rounds_most}
 use Rattle.bar_roster.proofs.PlainText.{hex_digits, string_text-digits}
 
--- a text that is written out is text
+-- a text that is written is text
 ascii_from_test : (s : List ℕ) → list_all (λ c. nat_lt c 128) s ≡ true → IsAscii s
 ascii_from_test [] h = IsAscii-nil
 ascii_from_test (c ∷ s) h =
@@ -68,7 +68,7 @@ pub record IsWritable (k : KeyData) : Type 0 where
   pub secret_bytes : IsBytes k.secret
   pub secret_length : length k.secret ≡ 32
 
--- the parts of a key's text but for the line of the upper tree
+-- the parts of a key's text except the line of the upper tree
 module _ (party : ℕ) (id : List ℕ) (rounds lms ots : ℕ) (secret : List ℕ) (spent : Bool) where
   abbrev key : Option ℕ → KeyData
   key top = any_key_data party id rounds lms ots top secret spent
@@ -249,7 +249,7 @@ module _ (party : ℕ) (id : List ℕ) (rounds lms ots : ℕ) (secret : List ℕ
 
   -- ---- the fields
 
-  -- the tests of the values that depend on no upper tree
+  -- the tests of the values that don't depend on an upper tree
   fields : (top : Option ℕ) → IsWritable (key top) → key_fields (is_some top) (members top) ≡ Some (key top)
   fields top h =
       let id_is : decode_sized (encode_lower id) 8 ≡ Ok id = decode_sized-encode_lower id 8 h.id_length h.id_bytes in

@@ -1,4 +1,4 @@
--- What is kept of the peers' seeds after a test of one.
+-- The checkpoints of the peers' seeds after a test of one seed.
 use Rattle.std.proofs.Common.{◌≡◌, ℕ, ◌+◌, ◌==◌, true, false, List, Option, None, refl, ap, ◌∙◌, subst, arith}
 use Rattle.std.proofs.lemmas.Bool.Decides.{nat_tests}
 use Rattle.std.specs.Option.{option_map_or}
@@ -7,7 +7,7 @@ use Rattle.bar_seeds.specs.declared.checkpoints.Checkpoints.{Checkpoints}
 use Rattle.std.proofs.lemmas.Slice.Eq.{bytes_eq-Decides}
 use Rattle.std.proofs.lemmas.Bool.{eqb-false}
 use Rattle.bar_seeds.specs.Seeds.{is_seed, chain_start}
-use Rattle.bar_seeds.specs.Checkpoints.{kept_of, kept_round, kept_value, parties_in, MovesOn}
+use Rattle.bar_seeds.specs.Code.Checkpoints.{kept_of, kept_round, kept_value, parties_in, MovesOn}
 use Rattle.bar_session.specs.SessionData.{SessionData}
 use Rattle.bar_session.specs.Points.{anchor_in, AreSeeds}
 

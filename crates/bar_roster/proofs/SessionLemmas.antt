@@ -1,4 +1,4 @@
--- What holds of the sessions that are accepted.
+-- Laws of accepted sessions.
 use Rattle.std.proofs.Common.{◌≡◌, refl, sym, subst, arith, ℕ, ◌+◌, ◌*◌, ◌≤◌, ◌&&◌, nat_le, cond, Bool, true, false, pos}
 use Rattle.std.proofs.Common.{List, [], ◌∷◌, ◌++◌, length, codes, length-append, Option, Some, None, Result, Ok, Err}
 use Rattle.std.proofs.lemmas.Bool.{and_parts, leb-true}
@@ -26,7 +26,7 @@ use Rattle.bar_roster.specs.Shapes.{height_of, params_of, is_shaped, shaped, sha
 
 -- ---- checks in a row
 
--- where all checks hold, the first one does, and the others do with its answer
+-- if all checks hold, the first one does, and the others do with its answer
 check_holds : {A B P : Type 0} (r : Result A SessionFault) (f : A → Result B SessionFault) (y : B) → (r >>= f) ≡ Ok y
     → ((x : A) → r ≡ Ok x → f x ≡ Ok y → P) → P
 check_holds (Ok x) f y h next = next x refl h
@@ -63,7 +63,7 @@ number_range low high _ n e = cc
 in_range : (low high : ℕ) (key : Key) (o : Option Data) (n : ℕ) → of_kind (number_in low high) key o ≡ Ok n → (low ≤ n) × (n ≤ high)
 in_range low high key o n h = let found = kind_holds (number_in low high) key o n h in number_range low high found.0 n found.1
 
--- a number that may be missing is in its range where it is there
+-- a number that may be missing is in its range if it is there
 there_by : (key : Key) (d : Data) (top v : Option ℕ) → number_in 5 7 d ≡ v → some_of (ok_or v (BadValue key)) ≡ Ok top → IsTop top
 there_by key d top None is e = cc
 there_by key d top (Some n) is e = let same : Some n ≡ top = cc in subst IsTop same (number_range 5 7 d n is)
@@ -81,7 +81,7 @@ entries_by es ds true is e =
     rw (sym same) (leb-true 2 (count_of es) parts.0, leb-true (count_of es) most_peers parts.1)
 entries_by es ds false is e = cc
 
--- entries that are read are 2 to 200
+-- there are 2 to 200 entries that are read
 entries_range : (d : Data) (ds : Items) → peers_of d ≡ Some ds → (2 ≤ count_of ds) × (count_of ds ≤ most_peers)
 entries_range (array es) ds e = entries_by es ds _ refl e
 entries_range _ ds e = cc
@@ -165,7 +165,7 @@ parties_counted front keys anchors (item d ds) parties h =
     let longer_too = length-append anchors (p.1 ∷ []) in
     (omega (arith, counted.0, longer), omega (arith, counted.1, longer_too)))
 
--- how many there are of a text's rows
+-- how many rows a text has
 record Counted (rows : List (List ℕ) × List (List ℕ) × ℕ) : Type 0 where
   low : 2 ≤ rows.2
   high : rows.2 ≤ most_peers
@@ -230,7 +230,7 @@ shape_by_holds n peers s true h e =
     })
 shape_by_holds n peers s false h e = cc
 
--- numbers in range, with their shape and with parties and leaves enough, make a session
+-- numbers in range, with their shape and with enough parties and leaves, make a session
 session_of_parts : (n : Numbers) (fanout : ℕ) (shape : Shape) (rows : List (List ℕ) × List (List ℕ) × ℕ)
     → AreInRange n → IsShapeOf n rows.2 shape → Counted rows → (1 ≤ fanout) × (fanout ≤ rows.2)
     → leaves_a_round * n.rounds ≤ leaves_by (option_map height_of n.top) (params_of n.lms n.ots)

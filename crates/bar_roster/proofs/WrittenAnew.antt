@@ -1,4 +1,4 @@
--- The text of an accepted key, written anew, is read back as the same secrets.
+-- The text written again from an accepted key is read back as the same secrets.
 use Rattle.std.proofs.Common.{◌≡◌, ◌∙◌, ℕ, ◌≤◌, ◌&&◌, not, cond, Bool, true, false, List, ◌++◌, codes, length, Option, Some, None, Result, Ok, Err, refl, sym, ap, subst, arith, length-append}
 use Rattle.std.specs.Prelude.{is_some, nat_eq, option_and_then, option_map}
 use Rattle.std.specs.Option.{option_eq}
@@ -31,7 +31,7 @@ use Rattle.bar_roster.proofs.SessionLemmas.{number_range}
 
 -- ---- what was read of a key text can be written
 
--- where a step found something, the one before it did
+-- if a step found something, the one before it did
 found-before : {A B : Type 0} (o : Option A) (f : A → Option B) (b : B) → option_and_then f o ≡ Some b →
     (a : A) × (o ≡ Some a) × (f a ≡ Some b)
 found-before (Some a) f b h = (a, refl, h)
@@ -56,7 +56,7 @@ bytes-text n _ bytes h = absurd (none-some bytes h)
 bytes-read : (n : ℕ) (bytes : List ℕ) (o : Option Data) → option_and_then (bytes_of n) o ≡ Some bytes → (length bytes ≡ n) × IsBytes bytes
 bytes-read n bytes o h = let p = found-before o (bytes_of n) bytes h in bytes-text n p.0 bytes p.2
 
--- the type of an upper tree that was read is in its range, and it is there where there are two levels
+-- the type of an upper tree that was read is in its range, and it is there if there are two levels
 mapped-some : (o : Option ℕ) (top : Option ℕ) → option_map (λ n. Some n) o ≡ Some top → (n : ℕ) × (o ≡ Some n) × (Some n ≡ top)
 mapped-some (Some n) top h = (n, refl, cc)
 mapped-some None top h = absurd (none-some top h)
@@ -71,7 +71,7 @@ top-read false ms top h = let none : None ≡ top = cc in subst (λ (t : Option 
 same-some : (a b : KeyData) → Some a ≡ Some b → a ≡ b
 same-some a b h = cc
 
--- so whatever was read
+-- hence whatever was read
 fields-writable : (two : Bool) (ms : Members) (d : KeyData) → key_fields two ms ≡ Some d → IsWritable d × (is_some d.top ≡ two)
 fields-writable two ms d h =
     let v = found-before (option_and_then (number_in 1 1) (get_member (codes "version") ms)) _ d h in
@@ -136,7 +136,7 @@ again-writable d spent w = record {
 
 -- ---- of an accepted key
 
--- what was read of a text was written in range, with as many levels as were asked for
+-- what was read of a text is in range, with as many levels as were asked for
 read-writable : (two : Bool) (bytes : List ℕ) (d : KeyData) → key_read two bytes ≡ Ok d → IsWritable d × (is_some d.top ≡ two)
 read-writable two bytes d h = by_table (document bytes) h
   where
@@ -154,7 +154,7 @@ read-writable two bytes d h = by_table (document bytes) h
     by_table None e = cc
     by_table (Some ms) e = by_fields ms (key_fields two ms) refl e
 
--- The text spelled this key, which is the session's.
+-- The text encoded this key, which is the session's.
 record IsAccepted (s : SessionData) (caster : Bool) (d : KeyData) (k : Secrets) : Type 0 where
   writable : IsWritable d
   levels : is_some d.top ≡ is_some s.top
@@ -170,14 +170,14 @@ accepted-text s caster fresh bytes k h =
     let read = read-writable (is_some s.top) bytes p.0 named.0 in
     (p.0, record { writable = read.0; levels = read.1; ours = named.1; held = p.1.held; is = p.1.is })
 
--- types of upper trees that are compared are the same
+-- types of upper trees that compare as equal are the same
 same-top : (a b : Option ℕ) → option_eq nat_eq a b ≡ true → a ≡ b
 same-top None None h = refl
 same-top (Some m) (Some n) h = ap (λ (x : ℕ). Some x) (eqb-true m n h)
 same-top None (Some n) h = cc
 same-top (Some m) None h = cc
 
--- its numbers are the session's, so this is the text that it is written anew in
+-- its numbers are the session's, so this is the text that is written again
 same-text : (s : SessionData) (caster spent : Bool) (d : KeyData) (k : Secrets) → IsAccepted s caster d k →
     key_text_of (again d spent) ≡ text_of s k spent
 same-text s caster spent d k a =
@@ -194,7 +194,7 @@ same-text s caster spent d k a =
     (λ i. key_text_of (any_key_data d.party (id i) (rounds i) (lms i) (ots i) (top i) d.secret spent))
     ∙ ap (λ (k : Secrets). text_of s k spent) a.is
 
--- what it is read as, where a spent one will do
+-- what it is read as, if a spent one is allowed
 checked-again : (s : SessionData) (caster spent : Bool) (d : KeyData) (k : Secrets) → IsAccepted s caster d k →
     checked_key s false (named_key s caster (Ok (again d spent))) ≡ Ok k
 checked-again s caster spent d k a = by_use spent
@@ -216,7 +216,7 @@ reads-back s caster fresh spent bytes k h =
     ∙ ap (λ (r : Result KeyData KeyFileFault). checked_key s false (named_key s caster r)) read
     ∙ checked-again s caster spent p.0 k a
 
--- ---- and it is short
+-- ---- the text is short
 
 first-length : (d : KeyData) → IsWritable d → length (first_lines (encode_lower d.id) d.party d.rounds d.lms d.ots) ≤ 128
 first-length d w =

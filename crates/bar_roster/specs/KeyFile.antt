@@ -14,15 +14,15 @@ use Rattle.bar_session.specs.SessionData.{SessionData}
 use Rattle.bar_session.specs.Fits.{Fits, key_in, secrets_in, signing_secret}
 use Rattle.bar_roster.specs.KeyText.{key_read}
 
--- whether a row stands at a place
+-- whether a row is at this place
 abbrev pub is_at : List (List ℕ) → ℕ → List ℕ → Bool
 is_at rows place row = option_map_or (λ held. bytes_eq held row) (slice_get rows place) false
 
--- whether it holds a public key for a party, and for a peer an anchor
+-- whether the session holds a public key for a party, and for a peer an anchor
 abbrev pub holds : SessionData → ℕ → List ℕ → List ℕ → Bool
 holds s party key anchor = is_at s.keys party key && ((party == 0) || is_at s.anchors (party - 1) anchor)
 
--- whether it holds what comes from a secret: `Fits` as a test
+-- whether the session holds what is derived from a secret: `Fits` as a test
 abbrev pub fits : SessionData → ℕ → List ℕ → Bool
 fits s party secret = holds s party (key_in s secret) (anchor_of (secrets_in s party secret) s.shape.rounds)
 
@@ -36,16 +36,16 @@ is_of_session s caster k =
 
 -- ---- the first fault, or whose secret it is
 
--- by what it says
+-- what the text says is checked
 abbrev pub named_key : SessionData → Bool → Result KeyData KeyFileFault → Result KeyData KeyFileFault
 named_key s caster (Err e) = Err e
 named_key s caster (Ok k) = if is_of_session s caster k then Ok k else Err NotInRoster
 
--- what some bytes say of a key of the session, where the broadcaster's or a peer's is asked for
+-- what some bytes say of a key of the session, if the broadcaster's or a peer's is asked for
 abbrev pub session_key_of : SessionData → Bool → List ℕ → Result KeyData KeyFileFault
 session_key_of s caster bytes = named_key s caster (key_read (is_some s.top) bytes)
 
--- by what comes from the secret, and by its use
+-- what is derived from the secret is checked, and the key's use
 abbrev pub checked_key : SessionData → Bool → Result KeyData KeyFileFault → Result Secrets KeyFileFault
 checked_key s fresh (Err e) = Err e
 checked_key s fresh (Ok k) =
@@ -53,11 +53,11 @@ checked_key s fresh (Ok k) =
     else if k.spent && fresh then Err Spent
     else Ok (secrets_in s k.party k.secret)
 
--- what some bytes are read as, for a session, where the broadcaster's key or a peer's is asked for, and maybe a fresh one
+-- what some bytes are read as, for a session, if the broadcaster's key or a peer's is asked for, and maybe a fresh one
 abbrev pub key_file_of : SessionData → Bool → Bool → List ℕ → Result Secrets KeyFileFault
 key_file_of s caster fresh bytes = checked_key s fresh (session_key_of s caster bytes)
 
--- The secret is of the broadcaster or of a peer of the session, as asked for, and the session holds the public key and the anchor that come
+-- The secret is of the broadcaster or of a peer of the session, as asked for, and the session holds the public key and the anchor derived
 -- from it.
 pub record IsHeldBy (s : SessionData) (caster : Bool) (k : Secrets) : Type 0 where
   pub id : k.id ≡ s.shape.id
@@ -65,9 +65,9 @@ pub record IsHeldBy (s : SessionData) (caster : Bool) (k : Secrets) : Type 0 whe
   pub role : MatchBool caster (k.party ≡ 0) (1 ≤ k.party)
   pub fits : Fits s k.party k.secret
 
--- ---- what is made of it
+-- ---- what is derived from it
 
--- The secrets, the signing key and the chain are those of a party's secret.
+-- The secrets, the signing key and the chain are derived from a party's secret.
 pub record IsMadeFor (s : SessionData) (party : ℕ) (secret : List ℕ) (k : KeyFile) : Type 0 where
   pub secrets : k.secrets ≡ secrets_in s party secret
   pub signer : k.signer ≡ signing_secret s secret

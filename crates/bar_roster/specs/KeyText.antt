@@ -1,4 +1,4 @@
--- The text of a key: eight lines of TOML, or nine where signatures have two levels.
+-- The text of a key: eight lines of TOML, or nine if signatures have two levels.
 use Rattle.std.specs.Prelude.{ℕ, ◌≤◌, Bool, true, false, not, ◌&&◌, List, [], ◌++◌, codes, Option, Some, None, is_some, option_and_then, option_map, Result, Ok, Err, if◌then◌else◌}
 use Rattle.std.specs.Fmt.{decimal}
 use Rattle.hex.specs.Hex.{encode_lower}
@@ -14,11 +14,11 @@ abbrev pub any_key_data : ℕ → List ℕ → ℕ → ℕ → ℕ → Option �
 any_key_data party id rounds lms ots top secret spent =
     record { party = party; id = id; rounds = rounds; lms = lms; ots = ots; top = top; secret = secret; spent = spent }
 
--- the same of signatures of one level
+-- the same for signatures of one level
 abbrev pub key_data : ℕ → List ℕ → ℕ → ℕ → ℕ → List ℕ → Bool → KeyData
 key_data party id rounds lms ots secret spent = any_key_data party id rounds lms ots None secret spent
 
--- and of two, whose lower trees have type 5
+-- the same for signatures of two levels, whose lower trees have type 5
 abbrev pub hss_key_data : ℕ → List ℕ → ℕ → ℕ → ℕ → List ℕ → Bool → KeyData
 hss_key_data party id rounds top ots secret spent = any_key_data party id rounds 5 ots (Some top) secret spent
 
@@ -47,12 +47,12 @@ first_lines id party rounds lms ots =
     ++ (codes "\nlms = " ++ (decimal lms
     ++ (codes "\nots = " ++ (decimal ots ++ codes "\n")))))))))
 
--- the line of the upper tree, where there is one
+-- the line of the upper tree, if there is one
 abbrev pub top_line : Option ℕ → List ℕ
 top_line None = []
 top_line (Some top) = codes "top = " ++ (decimal top ++ codes "\n")
 
--- the last two
+-- the last two lines
 abbrev pub last_lines : List ℕ → Bool → List ℕ
 last_lines secret spent = codes "secret = \"" ++ (secret ++ (codes "\"\nspent = " ++ (truth spent ++ codes "\n")))
 
@@ -66,12 +66,12 @@ infixl 10 ◌>>=◌
 abbrev ◌>>=◌ : {A B : Type 0} → Option A → (A → Option B) → Option B
 o >>= f = option_and_then f o
 
--- the type of the upper tree, which a key of two levels needs; a key of one level has none, whatever stands there
+-- the type of the upper tree, which a key of two levels needs; a key of one level has none, whatever the table contains
 abbrev pub top_in : Bool → Members → Option (Option ℕ)
 top_in true ms = option_map Some (get_member (codes "top") ms >>= number_in 5 7)
 top_in false ms = Some None
 
--- what a table says of a key of one level or of two, where each of its keys is there and of its kind and range
+-- the values of a key of one level or of two in a table, if each of them is there and of its kind and range
 abbrev pub key_fields : Bool → Members → Option KeyData
 key_fields two ms = do
   version ← get_member (codes "version") ms >>= number_in 1 1
@@ -85,7 +85,7 @@ key_fields two ms = do
   spent ← get_member (codes "spent") ms >>= as_bool
   Some (any_key_data party id rounds lms ots top secret spent)
 
--- whether a table has a type of an upper tree, of whatever kind and range
+-- whether a table has a type of an upper tree, of any kind and range
 abbrev pub names_top : Members → Bool
 names_top ms = is_some (get_member (codes "top") ms)
 

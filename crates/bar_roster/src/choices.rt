@@ -1,8 +1,8 @@
-//! The seeds of a session's peers, and the partners that these choose.
+//! The seeds of a session's peers, and the partners that they choose.
 ghost use Rattle.std.specs.Prelude.{◌≡◌, ℕ, ◌+◌, ◌-◌, ◌≤◌, [], true, unwrap_or, slice_get, None, IfOk};
 ghost use Rattle.bar_seeds.specs.Partners.{partner_of};
 ghost use Rattle.bar_seeds.specs.Seeds.{is_seed};
-ghost use Rattle.bar_seeds.specs.Checkpoints.{kept_of, kept_round, MovesOn};
+ghost use Rattle.bar_seeds.specs.Code.Checkpoints.{kept_of, kept_round, MovesOn};
 ghost use Rattle.bar_session.specs.Points.{AreSeeds, anchor_in};
 
 use crate::session::Session;
@@ -37,7 +37,7 @@ impl Session {
         )
     }
 
-    /// What is kept of the seeds of its peers at first: nothing.
+    /// The first checkpoints of the peers' seeds: nothing is kept yet.
     pub fn checkpoints(&self, alloc: Global) -> Result<Checkpoints, AllocError>
         ensures seeds { IfOk result (AreSeeds self.now) }
         ensures empty { IfOk result (λ points. (peer : ℕ) → kept_of points peer ≡ None) }
@@ -46,8 +46,8 @@ impl Session {
         Ok(points)
     }
 
-    /// Whether it is a peer's seed of a round, by what is kept of the peers' seeds. It counts a step for each round back to the one that is
-    /// kept of the peer, and where the kept value isn't met, for each round.
+    /// Whether it is a peer's seed of a round, using the checkpoints of the peers' seeds. It counts a step for each round back to the one
+    /// that is kept of the peer or, if the kept value isn't met, a step for each round.
     pub fn is_known_seed<L: Ledger>(
         &self,
         peer: u16,

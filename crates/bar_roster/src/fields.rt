@@ -9,7 +9,7 @@ use hex::FromHex;
 use std::alloc::Global;
 use toml::{Table, Value};
 
-/// The table that the bytes write.
+/// The table that the bytes encode.
 pub(crate) fn document_table(alloc: Global, bytes: &[u8]) -> Result<Table, SessionFault>
     ensures ok { IfOk result (λ t. document bytes.now ≡ Some (table_view t)) }
     ensures err { IfErr result (λ e. (e ≡ SessionFault.NoMemory) ⊎ ((e ≡ SessionFault.NotToml) × (document bytes.now ≡ None))) }
@@ -25,7 +25,7 @@ pub(crate) fn document_table(alloc: Global, bytes: &[u8]) -> Result<Table, Sessi
     }
 }
 
-/// The number that a value is, where it is in the range.
+/// The number that a value is, if it is in the range.
 pub(crate) fn number(value: &Value, low: u64, high: u64) -> Option<u64>
     ensures value { result ≡ number_in low high (view value.now) }
     ensures within { IfSome result (λ n. (low ≤ n) × (n ≤ high)) }
@@ -34,7 +34,7 @@ pub(crate) fn number(value: &Value, low: u64, high: u64) -> Option<u64>
     if low <= n && n <= high { Some(n) } else { None }
 }
 
-/// The bytes that a value writes in hex digits.
+/// The bytes that a value encodes in hex digits.
 pub(crate) fn bytes<const N: usize>(value: &Value) -> Option<[u8; N]>
     ensures { result ≡ bytes_of N (view value.now) }
 {

@@ -9,11 +9,11 @@ use std::fmt;
 /// The first fault of a key text.
 #[derive(Debug, Clone, Copy, PartialEq, Eq)]
 pub enum KeyFileFault {
-    /// The bytes are no TOML document.
+    /// The bytes are not a TOML document.
     NotToml,
-    /// A key isn't there, or its value isn't of its kind and range.
+    /// A key is missing, or its value isn't of its kind or not in its range.
     BadValue,
-    /// The session has other numbers, another public key or another anchor, or the party has the other role.
+    /// The session has other numbers, another public key or another anchor, or the party doesn't have the role that is asked for.
     NotInRoster,
     /// The key was used, and a fresh one is asked for.
     Spent,

@@ -19,7 +19,7 @@ pub struct KeyData {
     pub rounds: u32,
     pub lms: u32,
     pub ots: u32,
-    /// The type of the upper tree, where signatures have two levels.
+    /// The type of the upper tree, if signatures have two levels.
     pub top: Option<u32>,
     pub secret: [u8; 32],
     pub spent: bool,
@@ -32,7 +32,7 @@ pub(crate) fn value_at<'a>(table: &'a Table, name: &str) -> Option<&'a Value>
     table.get(name)
 }
 
-// The number at a name, where it is in the range.
+// The number at a name, if it is in the range.
 fn number_in(table: &Table, name: &str, low: u64, high: u64) -> Option<u64>
     ensures value { result ≡ option_and_then (number_in low high) (get_member name.now (table_view table.now)) }
     ensures within { IfSome result (λ n. (low ≤ n) × (n ≤ high)) }
@@ -58,14 +58,14 @@ fn top_in(table: &Table, two: bool) -> Option<Option<u32>>
     }
 }
 
-/// Whether a table has a type of an upper tree, of whatever kind and range.
+/// Whether a table has a type of an upper tree, of any kind and range.
 pub(crate) fn names_top(table: &Table) -> bool
     ensures { result ≡ names_top (table_view table.now) }
 {
     value_at(table, "top").is_some()
 }
 
-/// What a table says of a key of one level or of two, where each of its keys is there and of its kind and range.
+/// The values of a key of one level or of two in a table, if each of them is there and of its kind and range.
 pub(crate) fn key_fields_at(table: &Table, two: bool) -> Option<KeyData>
     ensures { result ≡ key_fields two (table_view table.now) }
 {

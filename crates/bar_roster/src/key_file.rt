@@ -22,7 +22,7 @@ pub struct KeyFile {
 impl KeyFile {
     ghost use Rattle.bar_roster.specs.KeyFile.{IsMadeFor, IsKeyFileOf};
 
-    // The keys of a party's secret in the session, made anew.
+    // The keys derived from a party's secret in the session.
     fn make(alloc: Global, session: &Session, key: &KeyData) -> Result<KeyFile, AllocError>
         ensures { IfOk result (λ k. IsMadeFor session.now key.now.party key.now.secret k) }
     {
@@ -38,7 +38,7 @@ impl KeyFile {
         })
     }
 
-    // The public key that comes from the secret.
+    // The public key derived from the secret.
     fn public_in(&self, session: &Session) -> [u8; 56]
         requires made { IsMadeFor session.now self.now.secrets.party self.now.secrets.secret self.now }
         requires single { session.now.top ≡ None }
@@ -48,7 +48,7 @@ impl KeyFile {
         self.signer.public()
     }
 
-    // Whether the session holds the public key, and for a peer the anchor, that come from the secret.
+    // Whether the session holds the public key, and for a peer the anchor, derived from the secret.
     fn fits(&self, session: &Session) -> bool
         requires party { self.now.secrets.party ≤ session.now.shape.peers }
         requires made { IsMadeFor session.now self.now.secrets.party self.now.secrets.secret self.now }
@@ -59,8 +59,8 @@ impl KeyFile {
         session.holds(self.secrets.party, &public, &self.chain.anchor())
     }
 
-    /// Reads the key text of a party of the session, whose signatures have one level: the broadcaster's or a peer's, as asked for, and a
-    /// fresh one where one is asked for. It tells the first fault.
+    /// Reads the key text of a party of the session, whose signatures have one level. The party must be the broadcaster or a peer, as asked
+    /// for, and the key must be fresh if a fresh one is asked for. It reports the first fault.
     pub fn read(
         alloc: Global,
         bytes: &[u8],

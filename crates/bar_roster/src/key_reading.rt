@@ -12,7 +12,7 @@ use crate::{KeyFileFault, Session, SessionFault};
 use std::alloc::Global;
 use toml::Table;
 
-// The table that the bytes write.
+// The table that the bytes encode.
 fn key_table(alloc: Global, bytes: &[u8]) -> Result<Table, KeyFileFault>
     ensures ok { IfOk result (λ t. document bytes.now ≡ Some (table_view t)) }
     ensures err { IfErr result (λ e. (e ≡ KeyFileFault.NoMemory) ⊎ ((e ≡ KeyFileFault.NotToml) × (document bytes.now ≡ None))) }
@@ -24,7 +24,7 @@ fn key_table(alloc: Global, bytes: &[u8]) -> Result<Table, KeyFileFault>
     }
 }
 
-// What the bytes say of a key of one level or of two.
+// The key of one level or of two that the bytes encode.
 fn key_data(alloc: Global, bytes: &[u8], two: bool) -> Result<KeyData, KeyFileFault>
     ensures ok { IfOk result (λ k. key_read two bytes.now ≡ Ok k) }
     ensures err { IfErr result (λ e. (e ≡ KeyFileFault.NoMemory) ⊎ (key_read two bytes.now ≡ Err e)) }
@@ -56,8 +56,8 @@ fn is_of_session(key: &KeyData, session: &Session, caster: bool) -> bool
         && key.party <= shape.peers
 }
 
-/// Reads what a key text says of a key of the session, the broadcaster's or a peer's, as asked for. It tells the first fault but for those
-/// that ask for the public key or for the key's use.
+/// Reads a key text for the session, the broadcaster's or a peer's, as asked for. It reports the first fault, except faults of the public
+/// key or of the key's use.
 pub fn read_key(
     alloc: Global,
     bytes: &[u8],

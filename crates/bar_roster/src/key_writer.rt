@@ -31,7 +31,7 @@ fn first_text(alloc: Global, id: &str, key: &KeyData) -> Result<String, AllocErr
     )
 }
 
-// The line of the upper tree, where there is one.
+// The line of the upper tree, if there is one.
 fn top_text(alloc: Global, top: Option<u32>) -> Result<String, AllocError>
     ensures { IfOk result (λ text. string_bytes text ≡ top_line top) }
 {
@@ -41,7 +41,7 @@ fn top_text(alloc: Global, top: Option<u32>) -> Result<String, AllocError>
     }
 }
 
-// The last two.
+// The last two lines.
 fn last_text(alloc: Global, secret: &str, spent: bool) -> Result<String, AllocError>
     ensures { IfOk result (λ text. string_bytes text ≡ last_lines secret.now spent) }
 {
@@ -49,9 +49,9 @@ fn last_text(alloc: Global, secret: &str, spent: bool) -> Result<String, AllocEr
 }
 
 impl KeyData {
-    /// The text of a key: eight lines of TOML, or nine where signatures have two levels.
+    /// The text of a key: eight lines of TOML, or nine if signatures have two levels.
     ///
-    /// It is read back as what it was written from, where the numbers are in the ranges of a key text.
+    /// If the numbers are in the ranges of a key text, the text is read back as this key.
     pub fn text(&self, alloc: Global) -> Result<Vec<u8>, AllocError>
         ensures text { IfOk result (λ text. text.items ≡ key_text_of self.now) }
         ensures reads_back { IsInRange self.now → IfOk result (λ text. key_read (is_some self.now.top) text.items ≡ Ok self.now) }
@@ -67,7 +67,7 @@ impl KeyData {
 
 /// The text of a party's key in the session with this id, whose signatures have one level: eight lines of TOML.
 ///
-/// It is read back as what it was written from, where the numbers are in the ranges of a key text.
+/// If the numbers are in the ranges of a key text, the text is read back as this key.
 #[allow(clippy::too_many_arguments)]
 pub fn key_text(
     alloc: Global,

@@ -32,7 +32,7 @@ impl Keys {
         }
     }
 
-    /// The same once more.
+    /// A copy of the keys.
     pub fn copied(&self, alloc: Global) -> Result<Keys, AllocError>
         ensures { IfOk result (λ k. rows_of k ≡ rows_of self.now) }
     {

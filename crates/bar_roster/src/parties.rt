@@ -17,7 +17,7 @@ use std::alloc::Global;
 use toml::value::Array;
 use toml::{Table, Value};
 
-/// What a public key of one level begins with: both types, in four bytes each.
+/// The prefix of a public key of one level: both types, in four bytes each.
 fn single_front(numbers: &Numbers) -> [u8; 8]
     requires { numbers.now.top ≡ None }
     ensures { result ≡ front_of numbers.now }
@@ -25,7 +25,7 @@ fn single_front(numbers: &Numbers) -> [u8; 8]
     [0, 0, 0, numbers.lms, 0, 0, 0, numbers.ots]
 }
 
-/// What a public key of two levels begins with: their number, and the types of the upper tree.
+/// The prefix of a public key of two levels: their number, and the types of the upper tree.
 fn double_front(numbers: &Numbers, top: u8) -> [u8; 12]
     requires { numbers.now.top ≡ Some top }
     ensures { result ≡ front_of numbers.now }
@@ -33,7 +33,7 @@ fn double_front(numbers: &Numbers, top: u8) -> [u8; 12]
     [0, 0, 0, 2, 0, 0, 0, top, 0, 0, 0, numbers.ots]
 }
 
-/// The public key that a value writes, where it begins so and is none of those before it.
+/// The public key that a value encodes, if it has this prefix and is none of those before it.
 fn public_key<const N: usize>(value: &Value, front: &[u8], earlier: &[[u8; N]]) -> Option<[u8; N]>
     requires { length front.now + 48 ≡ N }
     ensures { result ≡ key_of front.now earlier.now (view value.now) }
@@ -105,7 +105,7 @@ fn has_tables_alone(values: &[Value]) -> bool
     values.iter().all(|value| value.is_table())
 }
 
-/// The entries of `peer`, where they are tables and 2 to 200 of them.
+/// The entries of `peer`, if they are tables and there are 2 to 200 of them.
 #[tactic(auto, using(crate::proofs::FieldLemmas::views))]
 fn peer_entries(value: &Value) -> Option<&Array>
     ensures value { option_map (λ v. array_view v.now) result ≡ peers_of (view value.now) }
@@ -131,7 +131,7 @@ fn entries_at(table: &Table) -> Result<&Array, SessionFault>
     peer_entries(needed(table, Key::Peers, "peer")?).ok_or(SessionFault::BadValue(Key::Peers))
 }
 
-/// The keys and the anchors of a table, whose keys begin so.
+/// The keys and the anchors of a table, if its keys have this prefix.
 fn rows_at<const N: usize>(
     alloc: Global,
     table: &Table,

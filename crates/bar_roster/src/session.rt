@@ -1,4 +1,4 @@
-//! A session: what its text says.
+//! A session, as its text describes it.
 ghost use Rattle.std.specs.Prelude.{◌≡◌, ◌≤◌, ◌⊎◌, ◌-◌, Some, Err, Ok, IfOk, IfErr, length, option_map, slice_get};
 ghost use Rattle.toml.specs.View.{table_view};
 ghost use Rattle.bar_lms.specs.Params.{lms_type};
@@ -93,7 +93,7 @@ impl Session {
     ghost use Rattle.bar_session.specs.Sessions.{IsSession};
     ghost use Rattle.bar_session.specs.SessionData.{session_of_parts};
 
-    /// Reads a session text, or tells its first fault.
+    /// Reads a session text, or reports its first fault.
     pub fn read(alloc: Global, bytes: &[u8]) -> Result<Session, SessionFault>
         ensures ok { IfOk result (λ s. session_of bytes.now ≡ Ok s) }
         ensures err { IfErr result (λ e. (e ≡ SessionFault.NoMemory) ⊎ (session_of bytes.now ≡ Err e)) }
@@ -103,8 +103,8 @@ impl Session {
         parties_at(alloc, &table, &numbers)
     }
 
-    /// The session with these numbers, the keys of its parties from 0 on, and the anchors of its peers from 1 on. They are those of a session,
-    /// but that keys may be equal.
+    /// The session with these numbers, the keys of its parties from 0 on, and the anchors of its peers from 1 on. They must be those of a
+    /// session, except that keys may be equal.
     pub fn made(
         shape: Shape,
         cap: u8,
@@ -131,7 +131,7 @@ impl Session {
         }
     }
 
-    /// The same session once more.
+    /// A copy of the session.
     pub fn copied(&self, alloc: Global) -> Result<Session, AllocError>
         ensures { IfOk result (λ s. s ≡ self.now) }
     {
@@ -173,7 +173,7 @@ impl Session {
         self.fanout
     }
 
-    /// The UDP port of party 0 on loopback; party p has this port and p more.
+    /// The UDP port of party 0 on loopback; party p uses this port plus p.
     pub fn port(&self) -> u16
         ensures { result ≡ self.now.port }
     {
@@ -187,14 +187,14 @@ impl Session {
         self.tick_ms
     }
 
-    /// The LMS type of the upper tree, where signatures have two levels.
+    /// The LMS type of the upper tree, if signatures have two levels.
     pub fn top(&self) -> Option<u32>
         ensures { result ≡ option_map lms_type self.now.top }
     {
         Some(self.top?.number())
     }
 
-    /// The types of the upper tree, where signatures have two levels.
+    /// The types of the upper tree, if signatures have two levels.
     pub fn upper(&self) -> Option<Params>
         ensures value { result ≡ option_map (λ height. upper_types height self.now.params) self.now.top }
         ensures session { IsSession self.now }

@@ -7,14 +7,14 @@ use crate::Session;
 /// How many ticks a round has, each a slot of its own, from 0 on.
 pub const SLOTS_A_ROUND: u32 = 8;
 
-/// The round after so many ticks, 0 before the first one.
+/// The round after so many ticks; 0 before the first one.
 pub fn round_after(ticks: u32) -> u32
     ensures { result ≡ round_after ticks }
 {
     ticks.div_ceil(SLOTS_A_ROUND)
 }
 
-/// The slot of the last one of so many ticks, which are counted from 1.
+/// The slot of the last of so many ticks, which are counted from 1.
 pub fn slot_after(ticks: u32) -> u32
     ensures { result ≡ slot_after ticks }
 {
@@ -22,7 +22,7 @@ pub fn slot_after(ticks: u32) -> u32
 }
 
 impl Session {
-    /// The last tick that a party takes: the last one of the round behind that in which the last updates are played.
+    /// The last tick that a party takes: the last one of the round after the one in which the last updates are played.
     pub fn last_tick(&self) -> u32
         ensures value { result ≡ last_tick self.now }
         ensures few { result ≤ most_ticks }

@@ -1,4 +1,4 @@
-//! The types of a session's signatures, and what they bring with them.
+//! The types of a session's signatures, and what follows from them.
 ghost use Rattle.std.specs.Prelude.{◌≡◌, ◌≤◌, ◌*◌, Some, OnOk, option_map};
 ghost use Rattle.bar_lms.specs.Schemes.{leaves_by, length_by, upper_types};
 ghost use Rattle.bar_wire.specs.Limits.{leaves_a_round};
@@ -26,7 +26,7 @@ fn height_of(lms: u8) -> Height
     }
 }
 
-/// The height of the upper tree, where there is one.
+/// The height of the upper tree, if there is one.
 pub(crate) fn top_of(numbers: &Numbers) -> Option<Height>
     requires { AreInRange numbers.now }
     ensures { result ≡ option_map height_of numbers.now.top }
@@ -50,7 +50,7 @@ pub(crate) fn params_of(numbers: &Numbers) -> Params
     Params { height, ots }
 }
 
-/// The types of an upper tree over trees of these types: it has the same one-time signatures.
+/// The types of an upper tree over trees of these types, which has the same one-time signatures.
 pub(crate) fn upper_types(height: Height, low: Params) -> Params
     ensures { result ≡ upper_types height low }
 {
@@ -99,8 +99,8 @@ pub(crate) fn shape_of(numbers: &Numbers, top: Option<Height>, params: Params, p
     }
 }
 
-/// Whether there is a leaf for each message of the rounds, of which there are at most `MOST_LONG_ROUNDS`; else `TooFewLeaves` with both
-/// numbers.
+/// Whether there is a leaf for each message of the rounds, of which there are at most `MOST_LONG_ROUNDS`; otherwise `TooFewLeaves` with
+/// both numbers.
 pub fn check_leaves(rounds: u32, leaves: u32) -> Result<(), SessionFault>
     requires rounds { rounds ≤ most_long_rounds }
     ensures value { result ≡ enough_leaves rounds leaves }

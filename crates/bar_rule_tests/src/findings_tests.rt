@@ -1,4 +1,4 @@
-//! A party's findings in files in memory.
+//! Tests of writing a party's findings to files in memory.
 use bar_bytes::Rooms;
 use bar_findings::write_findings;
 use bar_outside::MemFiles;

@@ -1,6 +1,6 @@
-//! Tests of what holds, of what was exchanged, of the two exchanges, of the judge and of findings, by their public calls.
+//! Tests of stores, the judge, table files, proof files and findings, through their public calls.
 //!
-//! They stand in a crate of their own, since a crate with tests is proved twice.
+//! They are in a crate of their own, because a crate with tests is proved twice.
 #![tactic(auto)]
 
 #[cfg(test)]

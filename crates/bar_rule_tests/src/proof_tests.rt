@@ -1,4 +1,4 @@
-//! A proof file of an independent implementation.
+//! Tests of the judge with a proof file of an independent implementation.
 ghost use Rattle.std.specs.Prelude.{◌≡◌, ◌<◌};
 
 mod vectors;

@@ -1,4 +1,4 @@
-//! Table files of a small session. The broadcaster's key is by a Python program written from RFC 8554.
+//! Tests of table files of a small session. The broadcaster's key was made by a Python program written from RFC 8554.
 ghost use Rattle.std.specs.Prelude.{◌≡◌, ◌<◌};
 
 use bar_bytes::Steps;
@@ -21,9 +21,9 @@ use std::test::Fail;
 enum Part {
     /// The entry of the manifest of a round.
     Manifest(u8),
-    /// The same with another last byte of its signature.
+    /// The same entry with the last byte of its signature changed.
     Changed(u8),
-    /// The same without its last byte.
+    /// The same entry without its last byte.
     Cut(u8),
     /// A byte.
     Byte(u8),
@@ -118,7 +118,7 @@ fn read(alloc: Global, bytes: &[u8], session: &Session) -> Result<Table, TableFa
     read_with::<Brand>(alloc, bytes, session, Blank::new(1))
 }
 
-/// Parts of a file, and the place of its first bad entry. An entry has 8,931 bytes.
+/// The parts of a file, and the offset of its first bad entry. An entry has 8,931 bytes.
 const ROWS: [(&[Part], Option<u64>); 11] = [
     (&[], None),
     (&[Part::Manifest(3)], None),

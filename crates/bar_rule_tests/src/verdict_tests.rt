@@ -1,4 +1,5 @@
-//! Verdicts on evidence of a balanced exchange and of a choice of partner. The keys are by a Python program written from RFC 8554.
+//! Tests of verdicts on evidence about a balanced exchange and a choice of partner. The keys were made by a Python program written from RFC
+//! 8554.
 ghost use Rattle.std.specs.Prelude.{◌≡◌, ◌<◌};
 
 use bar_bytes::Steps;

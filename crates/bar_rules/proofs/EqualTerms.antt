@@ -1,4 +1,4 @@
--- Terms of one round are equal exactly if the rules take them for the same.
+-- Terms of one round are equal if and only if the rules treat them as the same.
 use Rattle.std.proofs.Common.{◌≡◌, ◌∙◌, ◌&&◌, ℕ, Bool, true, false, eqb, refl, sym}
 use Rattle.std.specs.Str.{bytes_eq}
 use Rattle.bar_window.specs.contracts.terms.TermsPartialEq.TheImpl as terms
@@ -8,11 +8,11 @@ use Rattle.bar_window.specs.declared.terms.Terms.TheVariants as raw
 use Rattle.bar_window.specs.declared.window.Window.{Window}
 use Rattle.bar_window.specs.Terms.{plain_terms}
 use Rattle.bar_window.specs.Updates.{same_updates}
-use Rattle.bar_window.specs.Window.{members}
+use Rattle.bar_window.specs.Code.Window.{members}
 use Rattle.bar_window.proofs.Equality.{windows-eq}
 use Rattle.bar_terms.proofs.Aligned.{two_aligned}
 use Rattle.bar_terms.proofs.Equal.{and_join}
-use Rattle.bar_wire.specs.Views.{AreTermWindows, IsWindowIn}
+use Rattle.bar_wire.specs.Code.Views.{AreTermWindows, IsWindowIn}
 use Rattle.bar_wire.specs.declared.shape.Shape.{Shape}
 use Rattle.bar_rules.specs.Peer.Admission.{same_terms}
 
@@ -28,7 +28,7 @@ five : (a b c d e : Bool) → (a && (b && (c && (d && e)))) ≡ ((((a && b) && c
 five true b c d e = four b c d e
 five false b c d e = refl
 
--- what `==` says of two terms
+-- what `==` returns for two terms
 pub terms-eq : (s : Shape) (round : ℕ) (t u : Terms) → AreTermWindows s round t → AreTermWindows s round u
     → (terms.ghosts).eq t u ≡ same_terms (plain_terms t) (plain_terms u)
 terms-eq s round (raw.Balanced nonce ha hb) (raw.Balanced nonce' ha' hb') one two =

@@ -1,4 +1,4 @@
--- Exchanges in order: one is put into a rising list.
+-- Exchanges in order: inserting one into a rising list.
 use Rattle.std.proofs.Common.{◌≡◌, ℕ, ◌<◌, ◌≤◌, ◌&&◌, Bool, true, false, List, [], ◌∷◌, refl, sym, ap, subst, ◌∙◌, inl, inr, ◌⊎◌, arith}
 use Rattle.std.specs.Prelude.{nat_lt, ◌==◌, ◌||◌}
 use Rattle.std.proofs.lemmas.Bool.{cases_Bool, cases_eq, cases_lt, both_ways, or_cases, and_parts, eqb-true, eq-eqb, ltb-true, lt-ltb}
@@ -13,7 +13,7 @@ use Rattle.bar_window.proofs.Exchanges.{same_exchange-is, same_exchange_refl, sa
 pub precedes-not_same : (x y : Exchange) → same_exchange x y ≡ true → precedes x y ≡ false
 precedes-not_same x y e = subst (λ y. precedes x y ≡ false) (same_exchange-is x y e) (grind (arith, nat_tests))
 
--- by one number, and where it is the same by a test
+-- by one number, and by a test if the numbers are equal
 abbrev by_number : ℕ → ℕ → Bool → Bool
 by_number a b t = nat_lt a b || (a == b) && t
 
@@ -38,7 +38,7 @@ number-chain a b c t u v rest e f = elim (number-cases a b t e) [
   | inr one ↦ elim (number-cases b c u f) [ inl gt ↦ number-less a c v (omega (arith, one.0, gt)) | inr same ↦ number-same a c v (one.0 ∙ same.0) (rest one.1 same.1) ]
 ]
 
--- where one isn't below another, the other is below it, or they are the same
+-- if one isn't below another, the other is below it, or they are the same
 number-total : (a b : ℕ) (t u : Bool) → by_number a b t ≡ false → (a ≡ b → t ≡ false → u ≡ true) → by_number b a u ≡ true
 number-total a b t u e rest = elim (cases_lt a b) [
   | inl lt ↦ absurd (both_ways (by_number a b t) e (number-less a b t lt))
@@ -86,7 +86,7 @@ precedes-differs x y e = elim (cases_Bool (same_exchange x y)) [
   | inr f ↦ f
 ]
 
--- One exchange is below another one.
+-- One exchange is below another.
 record IsBelow (x y : Exchange) : Type 0 where
   other : same_exchange x y ≡ false
   differs : same_exchange y x ≡ false
@@ -135,7 +135,7 @@ inserted-twice x (a ∷ r) = elim (order x a) [
   | Above b ↦ ap (inserted x) (at-above x a r b) ∙ at-above x a (inserted x r) b ∙ ap (λ ys. a ∷ ys) (inserted-twice x r) ∙ sym (at-above x a r b)
 ]
 
--- the lower one comes first, whichever is put in first
+-- the lower one is first, whichever is inserted first
 put-below : (x y a : Exchange) (r : List Exchange) → IsBelow x y → IsBelow x a → inserted x (inserted y (a ∷ r)) ≡ x ∷ inserted y (a ∷ r)
 put-below x y a r b c = elim (order y a) [
   | Same e ↦ ap (inserted x) (at-same y a r e) ∙ at-below x a r c ∙ ap (λ ys. x ∷ ys) (sym (at-same y a r e))

@@ -1,4 +1,4 @@
--- Rising lists of exchanges: one is put in.
+-- Rising lists of exchanges, and inserting one.
 use Rattle.std.proofs.Common.{◌≡◌, Bool, true, false, List, [], ◌∷◌, cond, refl}
 use Rattle.std.specs.List.{AllByRecursion}
 use Rattle.bar_window.specs.declared.exchange.Exchange.{Exchange}

@@ -39,7 +39,7 @@ between_shared p q low round kind h = go (nat_lt p q)
     go true = (first, (second, tt))
     go false = (second, (first, tt))
 
--- each of a list is one of the two, and of no earlier round than the first
+-- each exchange of the list is between the two parties, and of no earlier round than the first
 pub shared_are : (p q low round count : ℕ) → low ≤ round → AllByRecursion (IsShared p q low) (shared_from p q round count)
 shared_are p q low round zero h = tt
 shared_are p q low round (suc count) h =

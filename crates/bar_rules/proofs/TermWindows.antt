@@ -2,9 +2,9 @@
 use Rattle.std.proofs.Common.{◌∙◌, ℕ, sym}
 use Rattle.bar_window.specs.declared.terms.Terms.{Terms}
 use Rattle.bar_window.specs.declared.terms.Terms.TheVariants as raw
-use Rattle.bar_terms.specs.Windows.{AreAligned, AreWindowsOf}
+use Rattle.bar_terms.specs.Code.Windows.{AreAligned, AreWindowsOf}
 use Rattle.bar_terms.proofs.Aligned.{aligned}
-use Rattle.bar_wire.specs.Views.{AreTermWindows}
+use Rattle.bar_wire.specs.Code.Views.{AreTermWindows}
 use Rattle.bar_wire.specs.declared.shape.Shape.{Shape}
 
 pub windows_of : (s : Shape) (round : ℕ) (t : Terms) → AreTermWindows s round t → AreWindowsOf s.life round t

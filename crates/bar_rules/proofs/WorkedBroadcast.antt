@@ -17,7 +17,7 @@ use Rattle.bar_rules.specs.Values.{unsigned}
 use Rattle.bar_rules.specs.Judge.Verdict.{Shown, NotShown, Twice, Consistent, verdict}
 use Rattle.bar_rules.proofs.Worked.{session, update, after}
 
--- the broadcaster of a session of two peers, where each block goes to so many
+-- the broadcaster of a session of two peers, in which each block is sent to so many
 abbrev caster_to : ℕ → Member
 caster_to fanout = record { session = record session { fanout = fanout }; party = 0; secret = [] }
 
@@ -34,9 +34,9 @@ first_block = block_bytes (replicate 1022 7)
 abbrev second_block : List ℕ
 second_block = block_bytes (7 ∷ [])
 
--- ---- whom a block goes to
+-- ---- to whom a block is sent
 
--- how the ranks of two peers stand to one another, whatever the fan-out
+-- how the ranks of two peers compare, whatever the fan-out
 abbrev ranked : ℕ → UpdateId → ℕ → ℕ → Ordering
 ranked fanout u q p = slice_cmp nat_cmp (rank_of (caster_to fanout) u q) (rank_of (caster_to fanout) u p)
 
@@ -44,7 +44,7 @@ ranked fanout u q p = slice_cmp nat_cmp (rank_of (caster_to fanout) u q) (rank_o
 abbrev both_within : ℕ → UpdateId → List Bool
 both_within fanout u = map (is_in_fanout (caster_to fanout) u) (1 ∷ 2 ∷ [])
 
--- what a fan-out of one and of two make of an order of the ranks of peers 1 and 2
+-- which peers are within a fan-out of one and of two, for each order of the ranks of peers 1 and 2
 within-by :
     (fanout : ℕ) (u : UpdateId) (P : List Bool → Ordering → Type 0)
     → P (nat_lt 0 fanout ∷ nat_lt 1 fanout ∷ []) Less
@@ -75,14 +75,14 @@ within-by fanout u P less equal greater = go (ranked fanout u 1 2) refl
     go Equal e = let other : ranked fanout u 2 1 ≡ Equal = back Equal e in simp (first, second, e, other) equal
     go Greater e = let other : ranked fanout u 2 1 ≡ Less = back Greater e in simp (first, second, e, other) greater
 
--- of two peers both are among the first two, and none among the first none
+-- of two peers, both are among the first two, and neither is among the first zero
 two_of_two : (u : UpdateId) → both_within 2 u ≡ true ∷ true ∷ []
 two_of_two u = within-by 2 u (λ within r. within ≡ true ∷ true ∷ []) refl refl refl
 
 none_of_two : (u : UpdateId) → both_within 0 u ≡ false ∷ false ∷ []
 none_of_two u = within-by 0 u (λ within r. within ≡ false ∷ false ∷ []) refl refl refl
 
--- the first one is the peer with the lesser rank, and where these are alike the one with the lesser number
+-- the first one is the peer with the lower rank, or if the ranks are equal, the one with the lower number
 one_of_two : (u : UpdateId) → both_within 1 u ≡ (if is_gt (ranked 1 u 1 2) then false ∷ true ∷ [] else true ∷ false ∷ [])
 one_of_two u = within-by 1 u (λ within r. within ≡ (if is_gt r then false ∷ true ∷ [] else true ∷ false ∷ [])) refl refl refl
 
@@ -116,7 +116,7 @@ late-blocks b c = simp (is-within (update 1 0), is-within-too (update 1 0), is-w
 served-blocks : (b c : List ℕ) → (send_blocks caster 1 0 (b ∷ c ∷ []) (begun (Ticked ∷ Kept 1 [] ∷ after 1))).sends ≡ to_second b c
 served-blocks b c = simp (is-within-too (update 1 0), is-within-too (update 1 1))
 
--- tick 2 is slot 1 of round 1, and tick 6 slot 5: both blocks go to both peers
+-- tick 2 is slot 1 of round 1, and tick 6 slot 5: both blocks are sent to both peers
 blocks_go_out_in_slot_1 : sends_after caster (after 1) ≡ to_both first_block second_block
 unfolding caster_step
 blocks_go_out_in_slot_1 = early-blocks first_block second_block
@@ -196,7 +196,7 @@ of_version version = record {
 abbrev ticks_that_send : ℕ → List ℕ
 ticks_that_send version = map (λ sent. sent.0) (caster_sends_of (of_version version) [] (replicate 24 event.Tick))
 
--- in version 3 those of slot 2 too, from round 2 to the round after the last
+-- in version 3 the ticks of slot 2 send too, from round 2 to the round after the last
 who_sends_in_slot_2 :
     map ticks_that_send (1 ∷ 2 ∷ 3 ∷ [])
     ≡ (1 ∷ 1 ∷ 5 ∷ 5 ∷ 9 ∷ 9 ∷ 13 ∷ 13 ∷ [])
@@ -218,7 +218,7 @@ the_manifest_of_the_round_before_goes_again first second one two = simp (one, tw
 
 -- ---- the end of the stream
 
--- rounds of one block, in which the stream has a block of a third round
+-- rounds of one block, and a stream that has a block for a third round
 abbrev short : Member
 short = record {
   session = record session { shape = record session.shape { rounds = 2; per_round = 1 }; fanout = 2 };

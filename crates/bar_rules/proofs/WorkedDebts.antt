@@ -1,4 +1,5 @@
--- Worked examples of version 3, computed by the definitions: who owes a key, and a briefcase that goes again with the request for its key.
+-- Worked examples of version 3, computed by the definitions: who owes a key, and a briefcase that is sent again with the request for its
+-- key.
 use Rattle.std.proofs.Common.{◌≡◌, ℕ, List, [], ◌∷◌, ◌++◌, Bool, true, false, refl}
 use Rattle.std.specs.Prelude.{map}
 use Rattle.bar_window.specs.declared.exchange.Role.TheVariants.{Initiator, Responder}
@@ -47,7 +48,7 @@ nobody_else_owes_it = refl
 abbrev again_in : ℕ → Log → List Order
 again_in version log = again (in_version version) (known (in_version version) log) trade
 
--- the answer to the own request, and behind it both briefcases or the own one alone
+-- the answer to the own request, and then both briefcases or only the own one
 abbrev with_both : ℕ → Log
 with_both ticks = after ticks ++ heard (from_partner (Response 6 hb)) ∷ both_cases
 

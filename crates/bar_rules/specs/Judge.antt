@@ -1,2 +1,2 @@
--- What a judge needs: what one or two datagrams show, and of whom.
+-- What a judge needs: which fault one or two datagrams show, and of whom.
 pub mod Verdict

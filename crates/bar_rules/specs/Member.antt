@@ -13,7 +13,7 @@ pub record Member : Type 0 where
   pub party : ℕ
   pub secret : List ℕ
 
--- The member is a peer of its session, which holds the key and the anchor that come from its secret.
+-- The member is a peer of its session, which holds the key and the anchor derived from its secret.
 pub record IsMember (me : Member) : Type 0 where
   pub session : IsSession me.session
   pub peer : IsPeer me.session.shape me.party

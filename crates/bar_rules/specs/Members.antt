@@ -1,4 +1,4 @@
--- The party of a session that secrets are of.
+-- The party of a session to which secrets belong.
 use Rattle.bar_session.specs.SessionData.{SessionData}
 use Rattle.bar_seeds.specs.declared.secrets.Secrets.{Secrets}
 use Rattle.bar_rules.specs.Member.{Member}

@@ -1,4 +1,4 @@
--- Runs: what one input leaves, and what a list of inputs leaves, whatever takes them.
+-- Runs: the outcome of one input and of a list of inputs, for any step and kind of state.
 use Rattle.std.specs.Prelude.{ℕ, ◌+◌, List, [], ◌∷◌, ◌++◌, map}
 use Rattle.std.specs.List.{flat_map, concat}
 use Rattle.bar_wire.specs.Datagram.{Datagram}
@@ -14,11 +14,11 @@ pub record Outcome (S : Type 0) : Type 0 where
 abbrev pub begun : {S : Type 0} → S → Outcome S
 begun s = record { state = s; sends = []; contents = [] }
 
--- one datagram more is sent
+-- one more datagram is sent
 abbrev pub sending : {S : Type 0} → Outcome S → ℕ → Datagram → Outcome S
 sending out to d = record { state = out.state; sends = out.sends ++ (to, d) ∷ []; contents = out.contents }
 
--- ---- over a list of inputs, by the step of what takes them
+-- ---- over a list of inputs, given a step
 
 abbrev pub state_after : {S : Type 0} → (S → Input → Outcome S) → S → List Input → S
 state_after step s [] = s

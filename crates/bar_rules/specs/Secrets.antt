@@ -1,4 +1,4 @@
--- What comes from a member's secret, and how a partner is chosen.
+-- What is derived from a member's secret, and how a partner is chosen.
 use Rattle.std.specs.Prelude.{ℕ, Bool, List}
 use Rattle.bar_window.specs.declared.update.UpdateId.{UpdateId}
 use Rattle.bar_window.specs.declared.exchange.Exchange.{Exchange}
@@ -40,6 +40,6 @@ is_seed s peer round seed = seeds.is_seed s.shape.id (anchor_in s peer) peer rou
 abbrev pub partner_of : Session → List ℕ → XKind → ℕ → ℕ
 partner_of s seed kind peer = partners.partner_of s.shape.id s.shape.peers seed kind peer
 
--- the signature with a leaf of the key that comes from a secret
+-- the signature with a leaf of the key derived from a secret
 abbrev pub signature_of : Member → ℕ → List ℕ → List ℕ
 signature_of me leaf message = signed_by me.session.top me.session.params me.session.shape.id me.secret leaf message

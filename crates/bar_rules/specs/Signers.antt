@@ -4,7 +4,7 @@ use Rattle.bar_lms.specs.Schemes.{leaves_by}
 use Rattle.bar_rules.specs.Member.{Member}
 use Rattle.bar_rules.specs.Secrets.{signature_of}
 
--- It signs as this member does, with as many leaves and as long signatures as the session's scheme has.
+-- It signs as this member does, and it has as many leaves and as long signatures as the session's scheme.
 pub record IsSignerOf (me : Member) (signed : ℕ → List ℕ → List ℕ) (leaves signature_len : ℕ) : Type 0 where
   pub signs : (leaf : ℕ) (message : List ℕ) → signed leaf message ≡ signature_of me leaf message
   pub leaves_are : leaves ≡ leaves_by me.session.top me.session.params

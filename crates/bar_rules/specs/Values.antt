@@ -24,7 +24,7 @@ use Rattle.bar_rules.specs.Member.{Session, key_of_party}
 
 -- ---- updates
 
--- the updates of a round, of a run of rounds, and of the window of a round
+-- the updates of a round, of consecutive rounds, and of the window of a round
 abbrev pub updates_of : Session → ℕ → List UpdateId
 updates_of s round = updates.updates_of (words_of s.shape) round
 

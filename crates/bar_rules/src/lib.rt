@@ -1,2 +1,2 @@
-//! The rules of a peer as definitions, and nothing else: what it knows, admits, sends and plays.
+//! Definitions of a peer's rules, and nothing else: what it knows, admits, sends and plays.
 #![tactic(auto)]

@@ -12,7 +12,7 @@ pub fn caster_key() -> &'static str {
     secret = \"0707070707070707070707070707070707070707070707070707070707070707\"\nspent = false\n"
 }
 
-/// The same when it is spent.
+/// The same key file, spent.
 pub fn spent_caster_key() -> &'static str {
     "version = 1\nid = \"0011223344556677\"\nparty = 0\nrounds = 10\nlms = 6\nots = 4\n\
     secret = \"0707070707070707070707070707070707070707070707070707070707070707\"\nspent = true\n"

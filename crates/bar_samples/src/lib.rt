@@ -1,4 +1,5 @@
-//! Sessions, key files, signatures and signed datagrams for tests. The keys, anchors and signatures are by a Python program written from RFC 8554.
+//! Sessions, key files, signatures and signed datagrams for tests. The keys, anchors and signatures were made by a Python program written
+//! from RFC 8554.
 #![tactic(auto)]
 
 pub mod keys;

@@ -1,9 +1,10 @@
-//! Texts of sessions. Each stands in a function of its own, since a proof is longer with each place that names it.
+//! Texts of sessions for tests. Each is in a function of its own, because every place that names a text makes a proof longer.
 
 /// The id of all sessions here.
 pub const ID: [u8; 8] = [0x00, 0x11, 0x22, 0x33, 0x44, 0x55, 0x66, 0x77];
 
-/// A session of two peers and ten rounds, whose secrets are 32 times 8 and 9. That of its broadcaster is 32 times 7.
+/// A session of two peers and ten rounds. The secrets of the peers are 32 times the byte 8 and 32 times 9; that of the broadcaster is 32
+/// times 7.
 pub fn session() -> &'static str {
     "version = 1\nid = \"0011223344556677\"\nrounds = 10\nlife = 4\ncap = 4\n\
     per_round = 8\nfanout = 1\nport = 20000\ntick_ms = 20\nlms = 6\nots = 4\n\
@@ -25,7 +26,7 @@ pub fn third_session() -> &'static str {
     anchor = \"83269f0d2fe4bcfce159a9d89a00754a4c4d48d420faf98b712391837722eab5\"\n"
 }
 
-/// `session` with types that make short chains.
+/// `session` with types whose hash chains are short.
 pub fn session_of_short_chains() -> &'static str {
     "version = 1\nid = \"0011223344556677\"\nrounds = 10\nlife = 4\ncap = 4\n\
     per_round = 8\nfanout = 1\nport = 20000\ntick_ms = 20\nlms = 6\nots = 1\n\
@@ -36,7 +37,7 @@ pub fn session_of_short_chains() -> &'static str {
     anchor = \"22d984a93475a329dd35bccd254007ee8d81f582aaf64ee95e3bfea93bfbea63\"\n"
 }
 
-/// `session` with one round and a small tree, whose keys are quickly made.
+/// `session` with one round and a small tree, whose keys are fast to make.
 pub fn small_session() -> &'static str {
     "version = 1\nid = \"0011223344556677\"\nrounds = 1\nlife = 4\ncap = 4\n\
     per_round = 8\nfanout = 1\nport = 20000\ntick_ms = 20\nlms = 5\nots = 4\n\
@@ -47,8 +48,8 @@ pub fn small_session() -> &'static str {
     anchor = \"4d31893edc44a4dcff2b4a2837c85d4dd4385677072cca05466f250426f8080d\"\n"
 }
 
-/// A session of five peers and one round, whose secrets are 32 times 8, 9, 14, 10 and 11. In round 1 the partner of the peers 1, 2 and 3
-/// for a balanced exchange is peer 5, and that of peer 4 is peer 3.
+/// A session of five peers and one round. The peers' secrets are 32 times the bytes 8, 9, 14, 10 and 11. In round 1 the partner of peers 1,
+/// 2 and 3 for a balanced exchange is peer 5, and that of peer 4 is peer 3.
 pub fn session_of_five() -> &'static str {
     "version = 1\nid = \"0011223344556677\"\nrounds = 1\nlife = 4\ncap = 4\n\
     per_round = 8\nfanout = 1\nport = 20000\ntick_ms = 20\nlms = 5\nots = 4\n\
@@ -65,7 +66,7 @@ pub fn session_of_five() -> &'static str {
     anchor = \"090956e79e435db6da92683eaf81afb9551fa3218473541a142fd7abd5d6a2b3\"\n"
 }
 
-/// A session of three rounds, whose broadcaster's secret is 32 times 7 and whose types make short chains.
+/// A session of three rounds, whose types have short hash chains. The broadcaster's secret is 32 times the byte 7.
 pub fn three_rounds() -> &'static str {
     "version = 1\nid = \"0011223344556677\"\nrounds = 3\nlife = 4\ncap = 4\n\
     per_round = 8\nfanout = 1\nport = 20000\ntick_ms = 20\nlms = 6\nots = 1\n\
@@ -76,7 +77,7 @@ pub fn three_rounds() -> &'static str {
     anchor = \"0000000000000000000000000000000000000000000000000000000000000002\"\n"
 }
 
-/// A session of two peers and three rounds, whose keys have one level. The secrets are 32 times 7, 8 and 9.
+/// A session of two peers and three rounds, whose keys have one level. The secrets are 32 times the bytes 7, 8 and 9.
 pub fn session_of_one_level() -> &'static str {
     "version = 1\nid = \"0011223344556677\"\nrounds = 3\nlife = 4\ncap = 4\n\
     per_round = 8\nfanout = 1\nport = 20000\ntick_ms = 20\nlms = 6\nots = 3\n\

@@ -1,4 +1,4 @@
-//! A signature of a session's broadcaster.
+//! A signature by a session's broadcaster.
 
 /// The signature of the manifest of round 1 of `small_session`, with a block that holds `hi`.
 pub fn small_signature() -> &'static str {

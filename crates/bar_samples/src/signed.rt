@@ -1,4 +1,4 @@
-//! Datagrams of the sessions here, signed, and evidence of them.
+//! Signed datagrams of the sample sessions, and evidence made of them.
 use crate::sessions::ID;
 use bar_lms::SecretKey;
 use bar_roster::Session;
@@ -6,14 +6,14 @@ use bar_seal::{LmsScheme, Scheme, Verifier};
 use std::alloc::{AllocError, Global};
 use std::test::Fail;
 
-/// What signs with a secret of 32 times one byte, by the types of a session.
+/// A signature scheme with the types of a session, and 32 times one byte as its secret.
 pub fn scheme_of(alloc: Global, session: &str, secret: u8) -> Result<LmsScheme, Fail> {
     let session = Session::read(alloc, session.as_bytes())?;
     let signer = SecretKey::make(alloc, session.params(), &ID, &[secret; 32])?;
     Ok(LmsScheme::new(signer))
 }
 
-/// What a datagram begins with, up to its round.
+/// The start of a datagram, up to its round.
 pub fn front(alloc: Global, kind: u8, parties: [u8; 4], round: u8) -> Result<Vec<u8>, AllocError> {
     let mut bytes = [0xba, 0x47, 1, kind].to_vec(alloc)?;
     bytes.extend_from_slice(&ID)?;
@@ -22,7 +22,7 @@ pub fn front(alloc: Global, kind: u8, parties: [u8; 4], round: u8) -> Result<Vec
     Ok(bytes)
 }
 
-/// Adds the signature of a message to it, by a leaf, or nothing where there is no such leaf.
+/// Appends a message's signature under a leaf, or nothing if there is no such leaf.
 pub fn sign(
     alloc: Global,
     scheme: &LmsScheme,
@@ -37,7 +37,7 @@ pub fn sign(
     Ok(())
 }
 
-/// Adds a datagram behind its length.
+/// Appends the length of a datagram, and the datagram.
 pub fn add_entry(bytes: &mut Vec<u8>, datagram: &[u8]) -> Result<(), AllocError> {
     let len = u16::try_from(datagram.len()).unwrap_or(0);
     bytes.extend_from_slice(&len.to_be_bytes())?;
@@ -55,7 +55,7 @@ pub fn evidence(alloc: Global, one: &[u8], two: Option<&[u8]>) -> Result<Vec<u8>
     Ok(bytes)
 }
 
-/// A message and its signature, by a leaf.
+/// A message and its signature under a leaf.
 pub fn signed(
     alloc: Global,
     scheme: &LmsScheme,
@@ -76,7 +76,7 @@ pub fn changed(alloc: Global, datagram: &[u8]) -> Result<Vec<u8>, AllocError> {
     Ok(bytes)
 }
 
-/// Adds words of windows by the lowest byte of each.
+/// Appends words of windows, each given by its lowest byte.
 pub fn add_words(bytes: &mut Vec<u8>, words: &[u8]) -> Result<(), AllocError> {
     for word in words {
         bytes.extend_from_slice(&[0, 0, 0, 0, 0, 0, 0, *word])?;
@@ -84,7 +84,7 @@ pub fn add_words(bytes: &mut Vec<u8>, words: &[u8]) -> Result<(), AllocError> {
     Ok(())
 }
 
-/// A block whose content has two bytes, where its length is not said to be another.
+/// A block with this length field and two bytes of content.
 pub fn block_with(len: u16, content: [u8; 2]) -> [u8; 1024] {
     let mut block = [0u8; 1024];
     block[..2].copy_from_slice(&len.to_be_bytes());

@@ -7,10 +7,10 @@ use Rattle.std.specs.Map.{keys_of, lookup_entry, remove_entry}
 use Rattle.std.specs.Option.{option_map_or}
 use Rattle.lru.specs.LruCache.{LruCache, put_entries}
 use Rattle.std.specs.Prelude.{option_map, option_and_then}
-use Rattle.bar_bytes.specs.Room.{RoomFor}
+use Rattle.bar_bytes.specs.Code.Room.{RoomFor}
 use Rattle.bar_seal.specs.declared.checked.Checked.{Checked}
-use Rattle.bar_seal.specs.Memo.{most_key, most_datagram, pair_in, pairs_in}
-use Rattle.bar_seal.specs.Places.{AreAll, AreRoomy, AreFree, IsFilledFirst, IsRoomy}
+use Rattle.bar_seal.specs.Code.Memo.{most_key, most_datagram, pair_in, pairs_in}
+use Rattle.bar_seal.specs.Code.Places.{AreAll, AreRoomy, AreFree, IsFilledFirst, IsRoomy}
 use Rattle.bar_seal.proofs.Remembered.{Place}
 use Rattle.bar_seal.proofs.Recalled.{free_pairs}
 

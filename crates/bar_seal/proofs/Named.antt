@@ -1,11 +1,11 @@
--- Identities and what messages are named by.
+-- Identities and the fields that identify messages.
 use Rattle.std.proofs.Common.{◌≡◌, ℕ, true, List, [], ◌∷◌, refl, sym, ap, ◌∙◌}
 use Rattle.std.specs.Prelude.{Option, Some, None, ◌↔◌, ◌==◌, ◌||◌, if◌then◌else◌}
 use Rattle.bar_wire.specs.Datagram.{Body, Message, Manifest, Request, Response, Query, Reply, Case, Key, Evict, is_signed, kind_number, named, identity_of}
 use Rattle.bar_seal.specs.declared.identities.Identity.{Identity}
 use Rattle.bar_seal.specs.Identities.{identity_by, identity}
 
--- the identity that is named by a kind and these numbers
+-- the identity with a kind and these numbers
 told : List ℕ → Option Identity
 told (k ∷ r ∷ []) = Some (record { kind = k; from = 0; to = 0; round = r; xkind = 0; role = 0 })
 told (k ∷ f ∷ r ∷ []) = Some (record { kind = k; from = f; to = 0; round = r; xkind = 0; role = 0 })
@@ -25,7 +25,7 @@ is_told (Case c) f t s = refl
 is_told (Key k) f t s = refl
 is_told b f t s = cc
 
--- the kind and the numbers that an identity is named by
+-- the kind and the numbers that identify a message with an identity
 names : Identity → List ℕ
 names d =
     if (d.kind == 1) || (d.kind == 12) then d.kind ∷ d.round ∷ []

@@ -1,4 +1,4 @@
--- A pair of a memo that is found, and one that is kept anew.
+-- A pair of a memo that is found, and a new one that is kept.
 use Rattle.std.proofs.Common.{◌≡◌, ℕ, zero, suc, ◌-◌, ◌≤◌, ◌<◌, true, false, List, [], ◌∷◌, length, take, Option, Some, None, nat_eq, refl, sym, ap, ◌∙◌, subst, arith, is_some, option_map}
 use Rattle.std.proofs.lemmas.Option.{same_Some}
 use Rattle.std.proofs.lemmas.List.{take_all}
@@ -9,8 +9,8 @@ use Rattle.std.specs.Prelude.{IfSome, IsSome}
 use Rattle.std.specs.Option.{option_map_or}
 use Rattle.lru.specs.LruCache.{LruCache, lru_cache, promoted, last_entry}
 use Rattle.bar_seal.specs.declared.checked.Checked.{Checked}
-use Rattle.bar_seal.specs.Memo.{Pair, Memo, pair_in, pairs_in, has_pair, but, with_pair}
-use Rattle.bar_seal.specs.Places.{AreAll, AreSome, AreFree, IsFilledFirst, IsRoomy}
+use Rattle.bar_seal.specs.Code.Memo.{Pair, Memo, pair_in, pairs_in, has_pair, but, with_pair}
+use Rattle.bar_seal.specs.Code.Places.{AreAll, AreSome, AreFree, IsFilledFirst, IsRoomy}
 use Rattle.bar_seal.proofs.Remembered.{Place, nat_eq_self, keeps_pair, has_found, IsFound, found, key_apart, fronted, length_but, few_pairs, length_but_pair, but_new, all_found}
 
 -- the pairs of a cache's places
@@ -29,7 +29,7 @@ lookup_by k (f ∷ es) e is =
       | false ↦ λ t. rw t (lookup_by k es e (rw t at is))
     ]) refl
 
--- What is known once the place of a pair is found.
+-- The facts that hold once the place of a pair is found.
 pub record IsRecalled (c : LruCache ℕ Checked) (p : Pair) (place : ℕ) : Type 0 where
   pub has : has_pair p (pairs_in c.entries) ≡ true
   pub there : is_some (lookup (nat_eq place) c.entries) ≡ true
@@ -119,7 +119,7 @@ last_found (f ∷ g ∷ es) e apart is =
     in
     behind f g e es apart.0 (last_found (g ∷ es) e apart.1 rest)
 
--- What is known once a new pair is kept in the last place.
+-- The facts that hold once a new pair is kept in the last place.
 pub record IsKept (c : LruCache ℕ Checked) (p : Pair) (place : ℕ) (w : Checked) : Type 0 where
   pub all : AreAll (lru_cache (set_value (nat_eq place) (promoted (nat_eq place) c.entries) w) c.cap)
   pub memo : memo_of (lru_cache (set_value (nat_eq place) (promoted (nat_eq place) c.entries) w) c.cap) ≡ with_pair p (memo_of c)

@@ -1,4 +1,4 @@
--- The pairs of a memo's places: a place that is found, and brought to the front.
+-- The pairs of a memo's places, and a place that is found and moved to the front.
 use Rattle.std.proofs.Common.{◌≡◌, ℕ, ◌+◌, ◌≤◌, ◌||◌, Bool, true, false, List, [], ◌∷◌, length, Option, Some, None, nat_eq, refl, sym, ap, ◌∙◌, subst, arith, is_some, cond}
 use Rattle.std.proofs.lemmas.Bool.Decides.{nat_tests}
 use Rattle.std.proofs.lemmas.Bool.{and_parts}
@@ -9,8 +9,8 @@ use Rattle.std.specs.Map.{keys_of, lookup_entry, remove_entry}
 use Rattle.std.specs.Option.{option_map_or}
 use Rattle.std.specs.Str.{bytes_eq}
 use Rattle.bar_seal.specs.declared.checked.Checked.{Checked}
-use Rattle.bar_seal.specs.Memo.{Pair, same_pair, pair_in, keeps, pairs_in, has_pair, but}
-use Rattle.bar_seal.specs.Places.{AreSome, IsFilledFirst, IsRoomy}
+use Rattle.bar_seal.specs.Code.Memo.{Pair, same_pair, pair_in, keeps, pairs_in, has_pair, but}
+use Rattle.bar_seal.specs.Code.Places.{AreSome, IsFilledFirst, IsRoomy}
 
 abbrev pub Place : Type 0
 Place = ℕ × Checked
@@ -18,7 +18,7 @@ Place = ℕ × Checked
 abbrev pub keeps_pair : Pair → Place → Bool
 keeps_pair p e = keeps p e.1
 
--- a pair is the same as itself, and only as itself
+-- a pair equals itself, and only itself
 pub same_self : (p : Pair) → same_pair p p ≡ true
 same_self p = rw ((bytes_eq-Decides p.0 p.0).1 refl, (bytes_eq-Decides p.1 p.1).1 refl) refl
 
@@ -43,7 +43,7 @@ pub has_found : (p : Pair) (es : List Place) → has_pair p (pairs_in es) ≡ is
 has_found p [] = refl
 has_found p (e ∷ es) = has_by p (pair_in e.1) e (pairs_in es) (find (keeps_pair p) es) (has_found p es)
 
--- A place is the one of a pair.
+-- A place is the one that keeps a pair.
 pub record IsFound (p : Pair) (es : List Place) (e : Place) : Type 0 where
   pub entry : lookup_entry (nat_eq e.0) es ≡ Some e
   pub pair : pair_in e.1 ≡ Some p
@@ -55,7 +55,7 @@ nat_eq_self n = grind (arith, nat_tests)
 nat_eq_other : (m n : ℕ) → nat_eq m n ≡ false → nat_eq n m ≡ false
 nat_eq_other m n other = grind (arith, nat_tests)
 
--- a number that isn't among those of the places isn't that of any
+-- If a number isn't among those of the places, it is different from each of them.
 pub key_apart : (k : ℕ) (es : List Place) (e : Place) → AllByRecursion (λ n. nat_eq k n ≡ false) (keys_of es) → lookup_entry (nat_eq e.0) es ≡ Some e → nat_eq e.0 k ≡ false
 key_apart k [] e apart found = absurd cc
 key_apart k (f ∷ es) e apart found =
@@ -100,7 +100,7 @@ found p (f ∷ es) e apart is =
       | false ↦ λ t. later_found p f e es apart.0 t (found p es e apart.1 (rw t at is))
     ]) refl
 
--- what holds of all places holds of all but one, and of the one
+-- what holds for all places holds for all but one, and for the one
 pub all_but : (P : Place → Type 0) (test : ℕ → Bool) (es : List Place) → AllByRecursion P es → AllByRecursion P (remove_entry test es)
 all_but P test [] all = tt
 all_but P test (f ∷ es) all =
@@ -163,7 +163,7 @@ length_but test (f ∷ es) e is =
       | false ↦ λ t. rw t (omega (arith, length_but test es e (rw t at is)))
     ]) refl
 
--- a place that keeps a pair comes to the front
+-- a place that keeps a pair is moved to the front
 pub fronted : (es : List Place) (e : Place) (c : Checked) (p : Pair) → AreSome es → IsRoomy c → pair_in c ≡ Some p → AreSome ((e.0, c) ∷ remove_entry (nat_eq e.0) es)
 unfolding IsDistinct
 fronted es e c p some roomy pair = record {
@@ -175,7 +175,7 @@ fronted es e c p some roomy pair = record {
     full : (q : Pair) → Some q ≡ None → ⊥
     full q is = cc
 
--- there are as many pairs as places, at the most
+-- there are at most as many pairs as places
 pub few_pairs : (es : List Place) → length (pairs_in es) ≤ length es
 few_pairs [] = omega arith
 few_pairs (e ∷ es) = more (pair_in e.1) (pairs_in es) (few_pairs es)

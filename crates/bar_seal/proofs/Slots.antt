@@ -1,4 +1,4 @@
--- A leaf names its message.
+-- A leaf determines the kind of its message, and its place.
 use Rattle.std.proofs.Common.{◌≡◌, ℕ, zero, suc, ◌+◌, ◌-◌, ◌*◌, ◌<◌, ◌≤◌, true, refl, sym, ap, ◌∙◌, inl, inr, arith}
 use Rattle.std.specs.Prelude.{Some, None, ◌⊎◌}
 use Rattle.bar_window.specs.declared.exchange.XKind.{XKind}
@@ -57,7 +57,7 @@ group_names Push Push Responder Initiator m n h i e = absurd (omega arith)
 numbers : (r s g h i j : ℕ) → g < exchanges_a_round → h < exchanges_a_round → i < 3 → j < 3 → leaves_a_round * r + (3 * g + i) ≡ leaves_a_round * s + (3 * h + j) → (r ≡ s) × (g ≡ h) × (i ≡ j)
 numbers r s g h i j a b c d e = (omega arith, omega arith, omega arith)
 
--- the kind that takes a step of a side
+-- the kind of message that belongs to a step of a side
 kind_by : ℕ → XKind → Role → ℕ
 kind_by zero Balanced Initiator = 3
 kind_by zero Balanced Responder = 4

@@ -7,11 +7,11 @@ use Rattle.bar_lms.specs.declared.key.KeyFault.{KeyFault}
 use Rattle.bar_lms.specs.Signature.{Public}
 use Rattle.bar_lms.specs.Acceptance.{is_accepted, steps_taken, is_key_of, key_at, is_accepted_under, steps_taken_under}
 
--- the key of given types that bytes are is the one that was read
+-- the key of given types that bytes encode is the one that was read
 abbrev ReadsOf : List ℕ → Result Public KeyFault → Type 0
 ReadsOf bytes r = (p : Params) → is_key_of p bytes ≡ true → r ≡ Ok (key_at p bytes)
 
--- bytes are a key of these types, and it is this one
+-- the bytes encode a key of these types, and it is this one
 pub record IsKey (p : Params) (bytes : List ℕ) (k : Public) : Type 0 where
   pub test : is_key_of p bytes ≡ true
   pub key : k ≡ key_at p bytes
@@ -23,7 +23,7 @@ read_key p bytes k r is types reads same =
     let found : Ok k ≡ Ok (key_at p bytes) = sym is ∙ reads p test in
     record { test = test; key = cc }
 
--- a key of other types was read
+-- If a key of other types was read, the bytes are no key of these types.
 pub read_other : (p : Params) (bytes : List ℕ) (k : Public) (r : Result Public KeyFault) → r ≡ Ok k → ReadsOf bytes r → (k.params ≡ p → ⊥)
     → is_key_of p bytes ≡ true → ⊥
 read_other p bytes k r is reads other test =
@@ -31,7 +31,7 @@ read_other p bytes k r is reads other test =
     let key : k ≡ key_at p bytes = cc in
     other (ap (λ (x : Public). x.params) key)
 
--- no key was read
+-- If no key was read, the bytes are no key of these types.
 pub read_none : (p : Params) (bytes : List ℕ) (e : KeyFault) (r : Result Public KeyFault) → r ≡ Err e → ReadsOf bytes r
     → is_key_of p bytes ≡ true → ⊥
 read_none p bytes e r is reads test = let found : Err e ≡ Ok (key_at p bytes) = sym is ∙ reads p test in cc

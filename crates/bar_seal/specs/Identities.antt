@@ -1,4 +1,4 @@
--- What a signed message is told by.
+-- The identities of signed messages.
 use Rattle.std.specs.Prelude.{ℕ, Option, Some, None}
 use Rattle.bar_window.specs.Exchange.{kind_code, role_code}
 use Rattle.bar_wire.specs.declared.kind.Kind.{Kind}
@@ -7,11 +7,11 @@ use Rattle.bar_wire.specs.Kinds.{code_of}
 use Rattle.bar_wire.specs.Datagram.{Message, Body, Manifest, Request, Response, Query, Reply, Case, Key, Evict}
 use Rattle.bar_seal.specs.declared.identities.Identity.{Identity}
 
--- told by its kind and round alone; the other fields are 0
+-- the identity of a message that is identified by its kind and round alone; the other fields are 0
 abbrev pub round_identity : Kind → ℕ → Identity
 round_identity kind round = record { kind = code_of kind; from = 0; to = 0; round = round; xkind = 0; role = 0 }
 
--- the identity of what one party sends another
+-- the identity of a body that one party sends another
 abbrev pub identity_by : Body → ℕ → ℕ → Option Identity
 identity_by (Manifest r ds) from to = Some (round_identity kinds.Manifest r)
 identity_by (Evict r ps) from to = Some (round_identity kinds.Evict r)
@@ -25,6 +25,6 @@ identity_by (Key k) from to =
     Some (record { kind = code_of kinds.Key; from = from; to = to; round = k.round; xkind = kind_code k.kind; role = role_code k.role })
 identity_by _ from to = None
 
--- the identity of a message, which an unsigned one has not
+-- the identity of a message; an unsigned one has none
 abbrev pub identity : Message → Option Identity
 identity m = identity_by m.body m.from m.to

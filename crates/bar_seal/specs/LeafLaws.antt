@@ -1,4 +1,4 @@
--- What leaves tell of the messages that they sign.
+-- Laws of what a leaf determines of the message that it signs.
 use Rattle.std.specs.Prelude.{◌≡◌, ℕ, ◌<◌, ◌≤◌, true, Some, None}
 use Rattle.bar_window.specs.declared.exchange.XKind.{XKind}
 use Rattle.bar_window.specs.declared.exchange.Role.{Role}
@@ -7,7 +7,7 @@ use Rattle.bar_wire.specs.Datagram.{Body, is_signed, round_of, part_of, kind_num
 use Rattle.bar_wire.specs.Limits.{seats_a_round}
 use Rattle.bar_seal.specs.Leaves.{leaf_of}
 
--- A leaf of a peer names the kind of its message, the round, kind and side of the exchange, and the seat of a responder.
+-- A leaf of a peer determines the kind of its message, the round, kind and side of the exchange, and the seat of a responder.
 abbrev pub PeersLeavesNameMessages : Type 0
 PeersLeavesNameMessages =
     (b c : Body) (p q : ℕ × XKind × Role) (s t : ℕ)
@@ -22,7 +22,7 @@ PeersLeavesNameMessages =
     → leaf_of b s ≡ leaf_of c t
     → (kind_number b ≡ kind_number c) × (p ≡ q) × (p.2 ≡ Responder → s ≡ t)
 
--- A leaf of the broadcaster names the kind and the round of its message.
+-- A leaf of the broadcaster determines the kind and the round of its message.
 abbrev pub CastersLeavesNameMessages : Type 0
 CastersLeavesNameMessages =
     (b c : Body) (s t : ℕ)

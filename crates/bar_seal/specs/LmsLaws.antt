@@ -1,4 +1,4 @@
--- What a secret key of LMS signs is accepted under its public key, has its length, and names its leaf.
+-- The signatures of an LMS secret key are accepted under its public key, have their length, and name their leaf.
 use Rattle.std.proofs.Common.{◌≡◌, ℕ, ◌^◌, ◌<◌, true, List, length}
 use Rattle.bar_lms.specs.Params.{levels, signature_len}
 use Rattle.bar_lms.specs.Acceptance.{is_accepted_under}

@@ -1,14 +1,14 @@
-//! What a message is told by.
+//! The identities of signed messages.
 
 ghost use Rattle.std.specs.Prelude.{◌≡◌};
 
 use bar_wire::Kind;
 
-/// What a signed message is told by: no party may sign two different messages of one identity.
+/// The identity of a signed message: no party may sign two different messages of one identity.
 ///
-/// `kind` is that of the datagram, 1 to 12, `xkind` 0 for a balanced exchange and 1 for a push, and `role` 0 for the initiator and 1 for the
-/// responder. A field that doesn't belong to the identity of its kind is 0: MANIFEST and EVICT are told by kind and round; REQUEST and
-/// QUERY by kind, sender and round; RESPONSE and REPLY by these and the receiver; CASE and KEY by all.
+/// `kind` is that of the datagram, 1 to 12, `xkind` 0 for a balanced exchange and 1 for a push, and `role` 0 for the initiator and 1 for
+/// the responder. A field that doesn't belong to the identity of its kind is 0. MANIFEST and EVICT are identified by kind and round;
+/// REQUEST and QUERY by kind, sender and round; RESPONSE and REPLY by these and the receiver; CASE and KEY by all.
 #[derive(Clone, Copy, Debug, PartialEq, Eq, PartialOrd, Ord, Hash)]
 pub struct Identity {
     pub kind: u8,
@@ -22,7 +22,7 @@ pub struct Identity {
 impl Identity {
     ghost use Rattle.bar_seal.specs.Identities.{round_identity};
 
-    /// What is told by its kind and round alone.
+    /// The identity of a message that is identified by its kind and round alone.
     pub(crate) fn of_round(kind: Kind, round: u32) -> Identity
         ensures { result ≡ round_identity kind round }
     {

@@ -3,7 +3,7 @@
 ghost use Rattle.std.specs.Prelude.{◌≡◌, ◌*◌, ◌≤◌, ◌<◌, ◌^◌, true, Some};
 ghost use Rattle.bar_wire.specs.Datagram.{Body as PlainBody, is_signed, round_of, kind_of, part_of};
 ghost use Rattle.bar_wire.specs.Limits.{leaves_a_round, seats_a_round};
-ghost use Rattle.bar_wire.specs.Views.{plain};
+ghost use Rattle.bar_wire.specs.Code.Views.{plain};
 ghost use Rattle.bar_seal.specs.Leaves.{leaf_of, first_slot, leaf_at, step_of};
 
 use bar_window::{Exchange, Role, XKind};
@@ -16,7 +16,7 @@ const CASE: u32 = 1;
 
 const KEY: u32 = 2;
 
-/// The slot of the first message of a side, where the responder has a seat.
+/// The slot of the first message of a side; a responder has this seat.
 fn first_slot(kind: XKind, role: Role, seat: u8) -> u32
     ensures { result ≡ first_slot kind role seat }
 {
@@ -39,7 +39,7 @@ fn leaf_at(round: u32, kind: XKind, role: Role, step: u32, seat: u8) -> u32
     LEAVES_A_ROUND * (round - 1) + (first_slot(kind, role, seat) + step)
 }
 
-/// The step of a side that takes a message of a kind.
+/// The step of a side to which a message of a kind belongs.
 fn step_of(kind: Kind) -> u32
     ensures step { (b : PlainBody) → kind_of b ≡ kind → result ≡ step_of b }
     ensures low { result < 3 }
@@ -51,7 +51,7 @@ fn step_of(kind: Kind) -> u32
     }
 }
 
-/// The leaf that signs a message of a kind from one side of an exchange, where a responder has a seat below `SEATS_A_ROUND`.
+/// The leaf that signs a message of a kind from one side of an exchange. A responder has a seat below `SEATS_A_ROUND`.
 pub fn leaf_for(kind: Kind, x: Exchange, role: Role, seat: u8) -> u32
     requires first { 1 ≤ x.round }
     requires fits { leaves_a_round * x.round < 2 ^ 32 }
@@ -61,11 +61,11 @@ pub fn leaf_for(kind: Kind, x: Exchange, role: Role, seat: u8) -> u32
     leaf_at(x.round, x.kind, role, step_of(kind), seat)
 }
 
-/// The leaf that signs a message of a signed kind, where its sender has a seat below `SEATS_A_ROUND` if it is the responder.
+/// The leaf that signs a message of a signed kind. If its sender is the responder, it has a seat below `SEATS_A_ROUND`.
 ///
-/// A peer has `LEAVES_A_ROUND` leaves for each round, one for each message that it may sign there: request, briefcase and key as balanced initiator, then
-/// as push initiator, then response, briefcase and key in each seat as balanced responder, then in each seat as push responder. The
-/// broadcaster has two, for the manifest and the notice of evictions.
+/// A peer has `LEAVES_A_ROUND` leaves for each round, one for each message that it may sign there. The first are request, briefcase and key
+/// as balanced initiator, then the same as push initiator. Then follow response, briefcase and key in each seat as balanced responder, then
+/// in each seat as push responder. The broadcaster has two, for the manifest and the notice of evictions.
 pub fn leaf_of(body: &Body<'_>, seat: u8) -> u32
     requires signed { is_signed (plain body.now) ≡ true }
     requires first { 1 ≤ round_of (plain body.now) }

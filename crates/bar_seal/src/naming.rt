@@ -2,13 +2,13 @@
 
 ghost use Rattle.std.specs.Prelude.{◌≡◌, ◌↔◌, false, IsNone};
 ghost use Rattle.bar_wire.specs.Datagram.{is_signed};
-ghost use Rattle.bar_wire.specs.Views.{plain};
+ghost use Rattle.bar_wire.specs.Code.Views.{plain};
 ghost use Rattle.bar_seal.specs.Identities.{identity_by};
 
 use crate::identities::Identity;
 use bar_wire::{Body, Kind, View};
 
-/// What a signed datagram is told by, or `None` for a kind that bears no signature.
+/// The identity of a signed datagram, or `None` for a kind that isn't signed.
 pub fn identity(view: &View<'_>) -> Option<Identity>
     ensures identity { result ≡ identity_by (plain view.now.body) view.now.from view.now.to }
     ensures unsigned { IsNone result ↔ (is_signed (plain view.now.body) ≡ false) }

@@ -1,4 +1,4 @@
--- What a party derives from its secret for one exchange, and the commitment to a history.
+-- The values that a party derives from its secret for one exchange, and the commitment to a history.
 use Rattle.std.specs.Prelude.{ℕ, List, ◌++◌, codes}
 use Rattle.bar_bytes.specs.Bytes.{u8_bytes}
 use Rattle.bar_bytes.specs.Tag.{tagged}
@@ -17,7 +17,7 @@ nonce_of s x = tagged (codes "NON1") s.id (exchange_bytes x ++ s.secret)
 unfoldable pub briefcase_key : Secrets → Exchange → Role → List ℕ
 briefcase_key s x role = tagged (codes "KEY1") s.id (exchange_bytes x ++ u8_bytes (role_code role) ++ s.secret)
 
--- the commitment to a nonce and a history, a set of updates of the window of the exchange's round, which has so many words for each round
--- and as many rounds as an update lives
+-- the commitment to a nonce and a history; the history is a set of updates of the window of the exchange's round, with `words` words for
+-- each of `life` rounds
 unfoldable pub commitment_of : ℕ → ℕ → List ℕ → Exchange → List ℕ → List UpdateId → List ℕ
 commitment_of words life id x nonce ha = tagged (codes "CMT1") id (exchange_bytes x ++ nonce ++ window_bytes words life x.round ha)

@@ -10,10 +10,10 @@ use Rattle.bar_window.specs.Exchange.{kind_code}
 unfoldable pub number_of : List ℕ → List ℕ → XKind → ℕ
 number_of id seed kind = from_be_bytes w64 (take 8 (tagged (codes "PRT1") id (seed ++ u8_bytes (kind_code kind))))
 
--- the peer at a place, from 0, among the peers but one
+-- the peer at a place, from 0, among all peers except one
 abbrev pub peer_but : ℕ → ℕ → ℕ
 peer_but me place = (if nat_lt (place + 1) me then place + 1 else place + 2)
 
--- the partner, where there are so many peers
+-- the partner among `peers` peers
 unfoldable pub partner_of : List ℕ → ℕ → List ℕ → XKind → ℕ → ℕ
 partner_of id peers seed kind me = peer_but me (number_of id seed kind % (peers - 1))

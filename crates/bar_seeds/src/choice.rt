@@ -28,7 +28,7 @@ fn choice_hash(id: &[u8; 8], seed: &[u8; 32], kind: XKind) -> [u8; 32]
     hash.finish()
 }
 
-// The number that a seed gives an exchange of a kind.
+// The number that a seed gives for an exchange of a kind.
 fn number(id: &[u8; 8], seed: &[u8; 32], kind: XKind) -> u64
     ensures { result ≡ number_of id.now seed.now kind }
 {

@@ -1,4 +1,4 @@
-//! What holds of all seeds, partners and hashes. These functions do nothing: what they ensure is a law.
+//! Laws of all seeds, partners and hashes. These functions do nothing: what they ensure is a law.
 
 ghost use Rattle.std.specs.Prelude.{◌≡◌, ℕ, ◌-◌, ◌≤◌, ◌≢◌, ◌↔◌, List, length, IsTrue};
 ghost use Rattle.bar_window.specs.declared.update.UpdateId.{UpdateId};
@@ -10,20 +10,20 @@ ghost use Rattle.bar_seeds.specs.Seeds.{chain_down, chain_start, is_seed, seed_o
 ghost use Rattle.bar_seeds.specs.Partners.{partner_of};
 ghost use Rattle.bar_seeds.specs.Derived.{nonce_of, briefcase_key, commitment_of};
 
-/// The test of a seed is true exactly where hashing it back to round 0 gives the anchor.
+/// The test of a seed is true if and only if hashing it back to round 0 gives the anchor.
 pub fn seeds_are_tested()
     ensures { (id anchor : List ℕ) (party round : ℕ) (seed : List ℕ) →
         IsTrue (is_seed id anchor party round seed) ↔ (chain_start id party round seed ≡ anchor) }
 {}
 
-/// The seed that a secret gives a round is a seed under the anchor that it gives.
+/// The seed that a secret gives for a round is a seed under the anchor that it gives.
 pub fn own_seeds_meet_the_anchor()
     ensures { (s : Secrets) (rounds round : ℕ) → round ≤ rounds →
         IsTrue (is_seed s.id (anchor_of s rounds) s.party round (seed_of s rounds round)) }
 {}
 
-/// The seed that a secret gives a round leads to those of each round before, to the anchor as that of round 0. So by the last seed that is
-/// kept of a party, its own later ones are tested in as many steps as there are rounds between.
+/// The seed that a secret gives for a round leads to those of all rounds before, with the anchor as that of round 0. So a party's later
+/// seeds are tested against its last kept one in as many steps as there are rounds between.
 pub fn own_seeds_lead_to_earlier_ones()
     ensures { (s : Secrets) (rounds round before : ℕ) → before ≤ round → round ≤ rounds →
         chain_down s.id s.party before (round - before) (seed_of s rounds round) ≡ seed_of s rounds before }

@@ -1,4 +1,4 @@
--- What the levels of a session's signatures tell of their types, and of the ranges of its numbers.
+-- What the levels of a session's signatures imply for their types and for the ranges of its numbers.
 use Rattle.std.proofs.Common.{◌≤◌, Bool, true, false, None, arith}
 use Rattle.bar_lms.specs.declared.params.Params.{Params}
 use Rattle.bar_lms.specs.Schemes.{length_by}
@@ -7,7 +7,7 @@ use Rattle.bar_session.specs.Limits.{last_lms_by, most_long_rounds, rounds_by}
 use Rattle.bar_session.specs.SessionData.{SessionData}
 use Rattle.bar_session.specs.Sessions.{AreLevels, IsSession}
 
--- the ranges of either number of levels are within the widest
+-- the limits for either number of levels are at most the greatest limits
 pub rounds_most : (two : Bool) → rounds_by two ≤ most_long_rounds
 rounds_most true = omega arith
 rounds_most false = omega arith
@@ -16,7 +16,7 @@ pub lms_most : (two : Bool) → last_lms_by two ≤ 7
 lms_most true = omega arith
 lms_most false = omega arith
 
--- one level asks nothing
+-- one level imposes no condition
 pub one_level : (p : Params) → AreLevels None p
 one_level p = record { low = λ height e. absurd (cc); few = λ height e. absurd (cc) }
 

@@ -10,11 +10,11 @@ most_peers = 200
 abbrev pub most_rounds : ℕ
 most_rounds = 1820
 
--- the most rounds of any session: of one whose signatures have two
+-- the most rounds of any session, allowed if its signatures have two levels
 abbrev pub most_long_rounds : ℕ
 most_long_rounds = 7200
 
--- the ports of party 0; each party p has this port and p more
+-- the range of party 0's port; party p uses that port plus p
 abbrev pub lowest_port : ℕ
 lowest_port = 1024
 
@@ -25,7 +25,7 @@ highest_port = 65335
 abbrev pub longest_tick : ℕ
 longest_tick = 60000
 
--- by whether signatures have two levels: the most rounds, the last type of a message's tree, and the first type of one-time signatures
+-- by whether signatures have two levels: the most rounds, the last type of a message's tree, the first type of one-time signatures
 abbrev pub rounds_by : Bool → ℕ
 rounds_by two = if two then most_long_rounds else most_rounds
 
@@ -35,7 +35,7 @@ last_lms_by two = if two then 5 else 7
 abbrev pub first_ots_by : Bool → ℕ
 first_ots_by two = if two then 3 else 1
 
--- the most updates of a round in a version, for each of which a window has a flag
+-- the most updates of a round in a version; a window has a flag for each
 abbrev pub most_per_round : ℕ → ℕ
 most_per_round version = 64 * words_in (nat_le 2 version)
 

@@ -4,7 +4,7 @@ use Rattle.bar_lms.specs.declared.params.Params.{Params}
 use Rattle.bar_lms.specs.declared.params.Height.{Height}
 use Rattle.bar_wire.specs.declared.shape.Shape.{Shape}
 
--- The upper tree has a height where signatures have two levels. The types are those of the trees that sign messages. Public keys are those of
+-- The upper tree has a height if signatures have two levels. The types are those of the trees that sign messages. Public keys are those of
 -- the parties from 0 on, and anchors those of the peers from 1 on.
 pub record SessionData : Type 0 where
   pub shape : Shape

@@ -15,10 +15,10 @@ round_after ticks = (ticks + (slots_a_round - 1)) / slots_a_round
 abbrev pub slot_after : ℕ → ℕ
 slot_after ticks = (ticks + (slots_a_round - 1)) % slots_a_round
 
--- no session has more ticks
+-- the most ticks of any session
 abbrev pub most_ticks : ℕ
 most_ticks = slots_a_round * (most_long_rounds + most_life + 1)
 
--- The last tick that a party takes, the last one of a round. The last updates are played in the round before, at its first slot.
+-- The last tick that a party takes, which is the last one of a round. The last updates are played in the round before, at its first slot.
 abbrev pub last_tick : SessionData → ℕ
 last_tick s = slots_a_round * (s.shape.rounds + s.shape.life + 1)

@@ -1,2 +1,2 @@
-//! A session as definitions, and nothing else: its numbers, its time, its parties' keys and seeds.
+//! Definitions of a session, and nothing else: its numbers, its time, and its parties' keys and seeds.
 #![tactic(auto)]

@@ -1,4 +1,4 @@
--- What a session's text and a key text are read as, and the stages that read them.
+-- The meaning of a session's text and of a key text, and the stages that read them.
 use Rattle.std.specs.Prelude.{ℕ, Bool, List, Result, true, false}
 use Rattle.bar_outside.specs.Disk.{Content}
 use Rattle.bar_outside.specs.Stages.{Stages, IsAccepted, IsRefused, stage}
@@ -10,27 +10,27 @@ use Rattle.bar_roster.specs.SessionText as text
 use Rattle.bar_roster.specs.KeyFile.{key_file_of}
 use Rattle.bar_session_files.specs.Refusals.{key_refused, session_refused}
 
--- the session that a text spells, or its first fault
+-- the session that a text encodes, or its first fault
 unfoldable pub session_of : List ℕ → Result SessionData SessionFault
 session_of bytes = text.session_of bytes
 
--- the secrets that a fresh key text of the broadcaster, or of a peer, holds, or its first fault
+-- the secrets in a fresh key text of the broadcaster or of a peer, or its first fault
 unfoldable pub fresh_key_of : Bool → SessionData → List ℕ → Result Secrets KeyFileFault
 fresh_key_of caster s bytes = key_file_of s caster true bytes
 
--- the secrets of a peer of the session that a key text holds, spent or not, or its first fault
+-- the secrets in a key text of a peer of the session, spent or not, or its first fault
 unfoldable pub secrets_of_key : SessionData → List ℕ → Result Secrets KeyFileFault
 secrets_of_key s bytes = key_file_of s false false bytes
 
--- the session's text is there and accepted
+-- the session's text exists and is accepted
 abbrev pub HasSession : List ℕ → Content → SessionData → Type 0
 HasSession session content s = IsAccepted session session_of content s
 
--- the session's text is there, and refused for this fault
+-- the session's text exists and is refused with this fault
 abbrev pub HasBadSession : List ℕ → Content → SessionFault → Type 0
 HasBadSession session content fault = IsRefused session session_of content fault
 
--- ---- the stages that most commands begin with
+-- ---- the stages with which most commands begin
 
 -- the session's text is read, and accepted or refused
 abbrev pub session_stage : List ℕ → (SessionData → Stages) → Stages

@@ -1,4 +1,4 @@
--- The lines by which a session's text and a key text are refused.
+-- The lines printed when a session's text or a key text is refused.
 use Rattle.std.specs.Prelude.{ℕ, List, ◌++◌, codes}
 use Rattle.bar_roster.specs.declared.fault.SessionFault.{SessionFault}
 use Rattle.bar_roster.specs.declared.key_fault.KeyFileFault.{KeyFileFault}

@@ -1,4 +1,4 @@
-//! Reading the texts that commands begin with: a session's, and a party's key.
+//! Reading the files with which commands begin: a session's text and a party's key.
 #![tactic(auto)]
 
 mod texts;

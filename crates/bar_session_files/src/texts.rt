@@ -1,4 +1,4 @@
-//! The session's text and a key text.
+//! Reading a session's text and a key text.
 ghost use Rattle.std.specs.Prelude.{◌≡◌, ◌⊎◌, Ok, Err, IfOk, IfErr, false};
 ghost use Rattle.bar_hss.specs.Files.{IsPartyKeyOf};
 ghost use Rattle.bar_session_files.specs.Accepting.{fresh_key_of, secrets_of_key, session_of};
@@ -7,7 +7,7 @@ use bar_hss::PartyKey;
 use bar_roster::{KeyFileFault, Session, SessionFault};
 use std::alloc::Global;
 
-/// The session that a text spells.
+/// The session that a text encodes.
 #[tactic(auto, unfolding(crate::specs::Accepting::session_of))]
 pub fn read_session(alloc: Global, text: &[u8]) -> Result<Session, SessionFault>
     ensures ok { IfOk result (λ session. session_of text.now ≡ Ok session) }

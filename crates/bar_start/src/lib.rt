@@ -1,4 +1,5 @@
-//! What the programs of this repository begin with: their arguments, whole files, and standard streams that keep their numbers.
+//! What the programs of this repository share at their start: reading arguments and whole files, and keeping the numbers of the standard
+//! streams.
 #![tactic(auto)]
 
 mod streams;
@@ -17,7 +18,7 @@ pub fn words_of<R: Env + AllocGlobal>(rt: &R) -> io::Result<Vec<String>> {
     Ok(words)
 }
 
-/// All the bytes of a file.
+/// Reads all the bytes of a file.
 pub fn read_file<R: rt::Files + AllocGlobal>(rt: &R, path: &str) -> io::Result<Vec<u8>> {
     let mut bytes = Vec::new(rt.alloc());
     fs::open(rt, path)?.read_to_end(&mut bytes)?;

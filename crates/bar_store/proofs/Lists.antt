@@ -5,7 +5,7 @@ use Rattle.std.specs.Bool.{OnTrue, OnFalse, then_some}
 use Rattle.std.specs.Option.{option_or}
 use Rattle.std.proofs.lemmas.Bool.{cases_eq, ne_eqb, false≢true}
 use Rattle.bar_terms.specs.Table.{Lists, digests_of}
-use Rattle.bar_terms.specs.Room.{TableWithRoom}
+use Rattle.bar_terms.specs.Code.Room.{TableWithRoom}
 
 pub same_numbers : (added : Bool) (old new : TableWithRoom) → OnFalse added (new ≡ old) → OnTrue added ((new.rounds ≡ old.rounds) × (new.per_round ≡ old.per_round))
     → (new.rounds ≡ old.rounds) × (new.per_round ≡ old.per_round)
@@ -18,7 +18,7 @@ by_test true (Some ds) list none = absurd (false≢true (sym (none refl)))
 by_test false None list none = refl
 by_test false (Some ds) list none = refl
 
--- a list that was added stands where none was
+-- a list is added where there was none
 added_is : (r round : ℕ) (old : Lists) (list : List (List ℕ)) → IsNone (digests_of old round)
     → (if r == round then Some list else digests_of old r) ≡ option_or (digests_of old r) (then_some (r == round) list)
 added_is r round old list none = elim (cases_eq r round) [

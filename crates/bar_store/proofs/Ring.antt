@@ -14,15 +14,15 @@ use Rattle.bar_window.specs.declared.update.UpdateId.{UpdateId}
 use Rattle.bar_window.specs.Updates.{same_update}
 use Rattle.bar_window.proofs.Sets.{same_is, one_update}
 use Rattle.bar_store.specs.declared.kept_block.KeptBlock.{KeptBlock}
-use Rattle.bar_store.specs.Rooms.{room_of, block_if, block_at, HasBlockRooms}
+use Rattle.bar_store.specs.Code.Rooms.{room_of, block_if, block_at, HasBlockRooms}
 
--- a quotient that is smaller makes the number smaller by the divisor
+-- if two numbers have the same remainder and one has the smaller quotient, it is smaller by at least the divisor
 less : (n a b : ℕ) → a % n ≡ b % n → a / n < b / n → a + n ≤ b
 less n a b e lt =
     let le : a / n + 1 ≤ b / n = omega (arith, lt) in
     omega (arith, div-add-mod a n, div-add-mod b n, mul-le-mul_left n le)
 
--- numbers with one remainder that are less than the divisor apart are one
+-- two numbers with the same remainder that differ by less than the divisor are equal
 pub near_is_same : (n a b : ℕ) → a % n ≡ b % n → a < b + n → b < a + n → a ≡ b
 near_is_same n a b e low high = elim (cases_lt (a / n) (b / n)) [
   | inl lt ↦ absurd (omega (arith, less n a b e lt, high))
@@ -34,13 +34,13 @@ near_is_same n a b e low high = elim (cases_lt (a / n) (b / n)) [
   ]
 ]
 
--- The update may be held: its index has a room, and its round is in time.
+-- The update may be held: there is a room for its index, and its round is in time.
 pub record IsInTime (life per_round round : ℕ) (u : UpdateId) : Type 0 where
   pub index : u.index < per_round
   pub near : u.round ≤ round + 1
   pub fresh : round ≤ u.round + life + 1
 
--- two updates in time that share a room are one
+-- two updates in time that share a room are equal
 one_room : (life per_round round : ℕ) (u v : UpdateId) → IsInTime life per_round round u → IsInTime life per_round round v → room_of life per_round u ≡ room_of life per_round v → u ≡ v
 one_room life per_round round u v a b e =
     let places = same_from_place (u.round % (life + 3)) u.index (v.round % (life + 3)) v.index per_round a.index b.index e in
@@ -50,11 +50,11 @@ option_or-none : (o : Option (List ℕ)) → option_or o None ≡ o
 option_or-none None = refl
 option_or-none (Some x) = refl
 
--- an update has one of the rooms
+-- the room of an update is one of the store's
 pub room_inside : (life per_round : ℕ) (u : UpdateId) → u.index < per_round → room_of life per_round u < (life + 3) * per_round
 room_inside life per_round u index = omega (arith, mul-add-lt (u.round % (life + 3)) per_round u.index (life + 3) (mod_below u.round (life + 3) (omega arith)) index)
 
--- where the room of an update that isn't held serves another one too, it has no block of that one
+-- if an update isn't held and shares its room with another one, the room contains no block of that one
 no_other : (life per_round round : ℕ) (rooms : List (Option KeptBlock)) (id u : UpdateId) (o : Option KeptBlock) → HasBlockRooms life per_round round rooms → IsInTime life per_round round id
     → block_at life per_round round rooms id ≡ None → room_of life per_round u ≡ room_of life per_round id → round ≤ u.round + life + 1
     → get_or rooms (room_of life per_round u) None ≡ o → block_if u o ≡ None
@@ -71,7 +71,7 @@ no_other life per_round round rooms id u (Some k) has time none e fresh is = eli
   | inr other ↦ rw other refl
 ]
 
--- a choice that is none where the test fails
+-- choices between a value and `None`
 if_late : (late : Bool) (o : Option (List ℕ)) → (late ≡ false → o ≡ None) → (if late then o else None) ≡ o
 if_late true o none = refl
 if_late false o none = sym (none refl)
@@ -83,7 +83,7 @@ if_none : (late : Bool) (o : Option (List ℕ)) → (late ≡ true → o ≡ Non
 if_none true o none = none refl
 if_none false o none = refl
 
--- a block that wasn't held is added to what is held
+-- after a new block is held, the held blocks are the old ones and this one
 pub after_hold : (life per_round round : ℕ) (rooms : List (Option KeptBlock)) (id : UpdateId) (block : List ℕ) → HasBlockRooms life per_round round rooms → IsInTime life per_round round id
     → block_at life per_round round rooms id ≡ None → (u : UpdateId)
     → block_at life per_round round (set rooms (room_of life per_round id) (Some (record { id = id; block = block }))) u
@@ -116,7 +116,7 @@ after_hold life per_round round rooms id block has time none u =
           ∙ ap (λ b. option_or old (then_some b block)) (sym differs)
     ]
 
--- the rooms after it
+-- the rooms afterwards are valid
 pub rooms_after : (life per_round round : ℕ) (rooms : List (Option KeptBlock)) (id : UpdateId) (block : List ℕ) → HasBlockRooms life per_round round rooms → IsInTime life per_round round id
     → HasBlockRooms life per_round round (set rooms (room_of life per_round id) (Some (record { id = id; block = block })))
 rooms_after life per_round round rooms id block has time =
@@ -141,12 +141,12 @@ none_at n i = elim (cases_lt i n) [
   | inr ge ↦ get_or_past (replicate n None) i None (omega (arith, ge, length-replicate {A = Option KeptBlock} n None))
 ]
 
--- rooms that are all empty
+-- if all rooms are empty, no block is held
 pub none_in : (life per_round round n : ℕ) (u : UpdateId) → block_at life per_round round (replicate n None) u ≡ None
 none_in life per_round round n u =
     if_none (nat_le round (u.round + life + 1)) (block_if u (get_or (replicate n None) (room_of life per_round u) None)) (λ t. ap (block_if u) (none_at n (room_of life per_round u)))
 
--- what is held after a later round was told
+-- the held blocks after `forget` with a later round
 pub after_forget : (life per_round round now : ℕ) (rooms : List (Option KeptBlock)) (u : UpdateId) → round ≤ now
     → block_at life per_round now rooms u ≡ (if nat_le now (u.round + life + 1) then block_at life per_round round rooms u else None)
 after_forget life per_round round now rooms u le = elim (cases_Bool (nat_le now (u.round + life + 1))) [

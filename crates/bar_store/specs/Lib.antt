@@ -1,5 +1,1 @@
-pub mod Rooms
-pub mod Held
-pub mod Holds
-pub mod Knowing
-pub mod Windows
+pub mod Code

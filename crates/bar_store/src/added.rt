@@ -1,16 +1,16 @@
-/// What became of a block: the first of these that holds.
+/// The outcome for a block: the first of these that holds.
 #[derive(Clone, Copy, Debug, PartialEq, Eq)]
 pub enum Added {
     /// The update is no longer alive.
     Late,
-    /// The manifest of its round isn't there.
+    /// The manifest of its round is missing.
     NoManifest,
-    /// The manifest ends before it.
+    /// The manifest has no digest for its index.
     PastEnd,
     /// The manifest has another digest for it.
     WrongDigest,
-    /// A block of it was held already.
+    /// Its block was held already.
     Held,
-    /// It is held from now on.
+    /// Its block is held from now on.
     New,
 }

@@ -1,4 +1,4 @@
-//! What a peer holds: the updates of a stream, in rooms whose memory is taken when they are made; and how large rooms are.
+//! What a peer holds: the updates of a stream, in rooms that are allocated when they are made; and the sizes of rooms.
 #![tactic(auto)]
 
 mod added;

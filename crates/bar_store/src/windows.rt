@@ -3,10 +3,10 @@
 ghost use Rattle.std.specs.Prelude.{◌≡◌, ◌-◌, ◌≤◌, ◌&&◌, not, max, is_some, filter};
 ghost use Rattle.bar_window.specs.Places.{words_in};
 ghost use Rattle.bar_window.specs.Updates.{updates_from, window_of, first_round};
-ghost use Rattle.bar_window.specs.Window.{members, IsWindowOf};
+ghost use Rattle.bar_window.specs.Code.Window.{members, IsWindowOf};
 ghost use Rattle.bar_terms.specs.Table.{is_known, digest_of, digests_of};
-ghost use Rattle.bar_store.specs.Held.{block_in};
-ghost use Rattle.bar_store.specs.Windows.{IsHistory, IsYoung, IsAged};
+ghost use Rattle.bar_store.specs.Code.Held.{block_in};
+ghost use Rattle.bar_store.specs.Code.Windows.{IsHistory, IsYoung, IsAged};
 
 use crate::picks::{Held, Lacking, first_round, pick};
 use crate::store::Store;
@@ -25,7 +25,7 @@ impl Store {
         pick(&Held(self), round, self.life(), self.wide(), first, round)
     }
 
-    /// The held updates of a round and the one before, of which a push offers the first ones.
+    /// The held updates of a round and the previous one. A push offers the first ones.
     pub fn young(&self, round: u32) -> Window
         ensures rounds { IsWindowOf self.now.life round result }
         ensures wide { result.wide ≡ self.now.wide }
@@ -37,8 +37,8 @@ impl Store {
         pick(&Held(self), round, self.life(), self.wide(), first, round)
     }
 
-    /// The updates within the table that are lacking, of the rounds of a round's window up to the last, of which a push asks for the first
-    /// ones.
+    /// The updates with a digest in the table that aren't held, from the start of a round's window up to round `last`. A push asks for the
+    /// first ones.
     pub fn lacking(&self, round: u32, last: u32) -> Window
         requires { last ≤ round }
         ensures rounds { IsWindowOf self.now.life round result }

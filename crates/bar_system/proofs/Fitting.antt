@@ -1,4 +1,4 @@
--- Files that held what was read of them fit.
+-- Files that held at the start what was read from them fit the history.
 use Rattle.std.proofs.Common.{◌≡◌, ◌≤◌, ◌∷◌, ◌∙◌, ℕ, Bool, List, [], Some, None, IsTrue, length, nat_le, true, false, refl, sym, ap, inl, inr, arith, if◌then◌else◌}
 use Rattle.std.specs.List.{AllByRecursion}
 use Rattle.std.specs.Option.{option_and_then}
@@ -12,19 +12,19 @@ use Rattle.bar_told.specs.Event.{Event, wrote, bound, ticked, came, sent, starte
 use Rattle.bar_system.specs.History.{content_by, content_of, fits_of, gives}
 use Rattle.bar_system.specs.Fitting.{AgreesWith, AreReadAlike, SomeContentFits}
 
--- ---- what was read of each file
+-- ---- what was read from each file
 
 abbrev found : List Event → Content
 found [] = λ path. None
 found (read path bytes ∷ before) = put_at (found before) path bytes
 found (_ ∷ before) = found before
 
--- a content that holds what was read
+-- the content holds what this event read
 abbrev HoldsRead : Content → Event → Type 0
 HoldsRead was (read path bytes) = was path ≡ Some bytes
 HoldsRead was _ = Unit {0}
 
--- another file with these bytes
+-- If an event agrees with a read, adding the read's bytes to the content keeps what the event read.
 put-one : (was : Content) (path bytes : List ℕ) (event : Event) → AgreesWith path bytes event → HoldsRead was event →
     HoldsRead (put_at was path bytes) event
 put-one was path bytes (read name others) agrees holds = elim (cases_Bool (bytes_eq name path)) [
@@ -72,7 +72,7 @@ holds-found (unadded name ∷ before) alike = (tt, holds-found before alike.1)
 holds-found (made name ∷ before) alike = (tt, holds-found before alike.1)
 holds-found (added name others ∷ before) alike = (tt, holds-found before alike.1)
 
--- ---- a file that wasn't written is as it was
+-- ---- a file that wasn't written is unchanged
 
 kept-one : (content : Content) (path bytes : List ℕ) (event : Event) → AgreesWith path bytes event →
     content_by event content path ≡ content path
@@ -96,7 +96,7 @@ kept-all was path bytes [] agree = refl
 kept-all was path bytes (event ∷ before) agree =
     kept-one (content_of before was) path bytes event agree.0 ∙ kept-all was path bytes before agree.1
 
--- ---- each read gave what it holds
+-- ---- each read gave what the file holds
 
 few : (n : ℕ) → n ≤ largest_file → nat_le n largest_file ≡ true
 few n h = grind (arith, nat_tests)

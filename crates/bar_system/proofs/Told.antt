@@ -1,4 +1,4 @@
--- What the history of files tells of a read and of an append.
+-- What the history of files says about a read and an append.
 use Rattle.std.proofs.Common.{◌≡◌, ◌++◌, ◌∷◌, ◌||◌, ◌∙◌, ℕ, Bool, List, [], Option, None, Some, Ok, Err, IsTrue, IsSome, true, false, cond, take, length, refl, sym, ap, subst, arith}
 use Rattle.std.specs.Bool.{⊤}
 use Rattle.std.specs.Prelude.{Vec}
@@ -8,7 +8,7 @@ use Rattle.std.specs.declared.alloc.Global.{Global}
 use Rattle.std.proofs.lemmas.Bool.{and_parts}
 use Rattle.std.proofs.lemmas.Slice.Eq.{bytes_eq-Decides}
 use Rattle.std.proofs.Math.Seq.{take-length}
-use Rattle.bar_outside.specs.Causes.{HasCause}
+use Rattle.bar_outside.specs.Code.Causes.{HasCause}
 use Rattle.bar_outside.specs.Disk.{Appends, Content, Reads, appended, put_at, readable}
 use Rattle.bar_outside.specs.declared.files.FileFault.{FileFault}
 use Rattle.bar_outside.specs.declared.files.FileFault.TheVariants.{Failed, NoMemory}
@@ -19,7 +19,7 @@ use Rattle.bar_system.specs.History.{content_of, disk_by, fits_of, gives, made_o
 true-false : true ≡ false → ⊥
 true-false e = cc
 
--- ---- a file that was made is there
+-- ---- a created file exists
 
 put-there : (content : Content) (name path : List ℕ) (before : Bool) → IsTrue (bytes_eq name path || before) →
     (IsTrue before → IsSome (content path)) → IsSome (put_at content name [] path)
@@ -64,7 +64,7 @@ given-held : (o : Option (List ℕ)) (bytes : List ℕ) → IsTrue (gives o byte
 given-held (Some held) bytes h = ap Some ((bytes_eq-Decides held bytes).0 h)
 given-held None bytes h = absurd (true-false (sym h))
 
--- what was read is told
+-- A successful read is recorded in the history.
 pub read-done : (events new : List Event) (faults : ℕ) (path : List ℕ) (bytes : Vec ℕ Global) (was : Content) →
     new ≡ read path bytes.items ∷ events → Reads path (disk_by events faults was) (disk_by new faults was) (Ok bytes)
 read-done events new faults path bytes was e = rw e (record {
@@ -84,7 +84,7 @@ read-done events new faults path bytes was e = rw e (record {
 
 -- ---- appends
 
--- all was added
+-- All bytes were appended.
 pub append-done : (events new : List Event) (faults : ℕ) (path bytes : List ℕ) (k : ℕ) (was : Content) →
     new ≡ added path (take k bytes) ∷ events → k ≡ length bytes → IsTrue (made_of events path) →
     Appends {T = Unit {0}} path bytes (disk_by events faults was) (disk_by new faults was) (Ok (tt {0}))
@@ -105,7 +105,7 @@ append-done events new faults path bytes k was e all here = rw e (record {
   refused = λ h. absurd (true-false (sym h));
 })
 
--- so much was added, and then the call failed
+-- The first `k` bytes were appended, and then the call failed.
 pub append-failed : (events mid new : List Event) (faults later : ℕ) (path bytes : List ℕ) (k : ℕ) (fault : FileFault) (was : Content) →
     mid ≡ added path (take k bytes) ∷ events → (fault ≡ Failed → new ≡ unadded path ∷ mid) → (fault ≡ NoMemory → new ≡ mid) →
     HasCause {T = ⊤} Failed faults later (Err fault) → IsTrue (made_of events path) →
@@ -143,7 +143,7 @@ append-failed events mid new faults later path bytes k NoMemory was m noted unno
   refused = λ h. absurd (true-false (sym h));
 })
 
--- nothing was added
+-- Nothing was appended.
 pub append-refused : (events new : List Event) (faults later : ℕ) (path bytes : List ℕ) (fault : FileFault) (was : Content) →
     (fault ≡ Failed → new ≡ unadded path ∷ events) → (fault ≡ NoMemory → new ≡ events) → HasCause {T = ⊤} Failed faults later (Err fault) →
     Appends {T = Unit {0}} path bytes (disk_by events faults was) (disk_by new later was) (Err fault)
@@ -180,9 +180,9 @@ append-refused events new faults later path bytes NoMemory was noted unnoted cau
   refused = λ h. absurd (true-false (sym h));
 })
 
--- ---- what a refusal tells
+-- ---- what a refusal records
 
--- nothing is told to be added by it
+-- A refusal doesn't change the content.
 pub same-content : (events new : List Event) (path : List ℕ) (fault : FileFault) → (fault ≡ Failed → new ≡ unadded path ∷ events) →
     (fault ≡ NoMemory → new ≡ events) → (was : Content) → content_of new was ≡ content_of events was
 same-content events new path Failed noted unnoted was = ap (λ xs. content_of xs was) (noted refl)

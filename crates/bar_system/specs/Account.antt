@@ -1,10 +1,10 @@
--- What a socket says of itself, if it says anything.
+-- The account of a socket: what it is bound to, was passed and gave. A socket may have none.
 use Rattle.std.specs.Prelude.{◌≡◌, ℕ, List, [], ◌∷◌, ◌++◌, Option, None, Some, take, Result, Ok, Err}
 
 pub record Account : Type 0 where
   -- the port that it is bound to
   pub port : ℕ
-  -- the datagrams that it was handed, in order, each with the port that it goes to
+  -- the datagrams that it was passed, in order, each with its destination port
   pub handed : List (ℕ × List ℕ)
   -- the datagrams that it gave, in order
   pub given : List (List ℕ)
@@ -24,7 +24,7 @@ abbrev pub received : {E : Type 0} → List ℕ → Result ℕ E → List (List 
 received buf (Ok len) = take len buf ∷ []
 received buf (Err fault) = []
 
--- if it says anything, it says that it was just bound to this port
+-- the socket's account, if it has one, is that of a socket just bound to this port
 abbrev pub IsOpened : ℕ → Option Account → Type 0
 IsOpened port None = Unit {0}
 IsOpened port (Some account) = account ≡ opened port

@@ -1,10 +1,10 @@
--- What a history of calls tells of an object, the last call first.
+-- What a history of calls, newest first, says about an object.
 use Rattle.std.specs.Prelude.{ℕ, Bool, List, [], ◌∷◌, ◌++◌, ◌&&◌, Option, None, Some, true, false}
 use Rattle.std.specs.Str.{bytes_eq}
 use Rattle.bar_outside.specs.Disk.{Content, CreatedFiles, Disk, Failure, appended, created, readable, with_file}
 use Rattle.bar_outside.specs.Stream.{Stream}
 use Rattle.bar_outside.specs.Wire.{Wire, Traffic, Tick, Datagram, no_traffic, bound_by, bound_to, gave, sent_to}
-use Rattle.bar_outside.specs.Children.{Children, ChildCall, Started, Waited}
+use Rattle.bar_outside.specs.Code.Children.{Children, ChildCall, Started, Waited}
 use Rattle.bar_outside.specs.declared.files.CallKind.TheVariants.{Read, Create, Append}
 use Rattle.bar_told.specs.Event.{Event, wrote, bound, ticked, came, sent, started, waited, read, made, added, unread, unmade, unadded}
 
@@ -39,7 +39,7 @@ abbrev pub calls_of : List Event → List ChildCall
 calls_of [] = []
 calls_of (event ∷ before) = calls_by event (calls_of before)
 
--- what the files hold, where they held this at first
+-- what the files hold, if they held this at the start
 abbrev pub content_by : Event → Content → Content
 content_by (made path) before = created before path
 content_by (added path bytes) before = appended before path bytes
@@ -49,12 +49,12 @@ abbrev pub content_of : List Event → Content → Content
 content_of [] was = was
 content_of (event ∷ before) was = content_by event (content_of before was)
 
--- a read of so much gives these bytes
+-- the readable content, if any, is these bytes
 abbrev pub gives : Option (List ℕ) → List ℕ → Bool
 gives None bytes = false
 gives (Some held) bytes = bytes_eq held bytes
 
--- each read gave what the files held then, where they held this at first
+-- each read gave what the files held at that time, if they held this at the start
 abbrev pub fits_by : Event → Content → Bool → Bool
 fits_by (read path bytes) held before = gives (readable held path) bytes && before
 fits_by _ held before = before
@@ -63,7 +63,7 @@ abbrev pub fits_of : List Event → Content → Bool
 fits_of [] was = true
 fits_of (event ∷ before) was = fits_by event (content_of before was) (fits_of before was)
 
--- which files were made
+-- which files were created
 abbrev pub made_by : Event → CreatedFiles → CreatedFiles
 made_by (made path) before = with_file before path
 made_by _ before = before
@@ -83,7 +83,7 @@ abbrev pub failed_of : List Event → Option Failure
 failed_of [] = None
 failed_of (event ∷ before) = failed_by event (failed_of before)
 
--- ---- an object with this history and so many faults; any call of it may fail
+-- ---- an object with this history and this many faults; any of its calls may fail
 
 abbrev pub stream_by : List Event → ℕ → Stream
 stream_by events faults = record { reliable = false; bytes = bytes_of events; faults = faults }

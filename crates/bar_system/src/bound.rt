@@ -1,4 +1,4 @@
-//! What a link is bound to: a socket, and the ticks that are due.
+//! The state of a bound link: its socket and the ticks that are due.
 ghost use Rattle.std.specs.Prelude.{◌≡◌, ◌≤◌, ◌+◌, length, IfOk, IfSome, OnOk, OnErr};
 ghost use Rattle.bar_outside.specs.Wire.{largest_packet};
 
@@ -9,12 +9,12 @@ use std::io::ErrorKind;
 use std::net::Net;
 use std::time::{Clock, Duration, SystemTime, UNIX_EPOCH};
 
-/// The longest that one read waits, in milliseconds. The clock is then read again. A longer wait ends late, as timers of the system grow
-/// coarser with their length.
+/// The longest wait of one read, in milliseconds. After it the clock is read again. A longer wait would end late, because the system's
+/// timers get coarser with their length.
 const LONGEST_WAIT: u64 = 100;
 
-/// A socket, the port of party 0, the length of a tick and the Unix time of the next one, both in milliseconds, and what is still taken before
-/// it.
+/// A socket, the port of party 0, the length of a tick and the Unix time of the next tick, both in milliseconds, and the room for datagrams
+/// before that tick.
 #[derive(Drop)]
 pub struct Bound<S> {
     socket: S,
@@ -61,7 +61,8 @@ impl<S: Socket> Bound<S> {
         })
     }
 
-    // Waits so many milliseconds for a datagram that is taken, which is written to the buffer; `None`, where none comes or it is dropped.
+    // Waits at most `wait` milliseconds for a datagram and writes it to the buffer. The result is `None` if none arrives or if it is
+    // dropped.
     fn take_one(&mut self, wait: u64, buf: &mut [u8]) -> io::Result<Option<usize>>
         ensures within { IfOk result (λ datagram. IfSome datagram (λ len. len ≤ length buf.new)) }
         ensures gives { Gives S.account (came_by buf.new result) self.old self.new }
@@ -80,8 +81,8 @@ impl<S: Socket> Bound<S> {
         }
     }
 
-    /// Waits until the next tick is due, which is `None`, or a datagram is there that is taken, which is written to the buffer. An overdue
-    /// tick comes at once.
+    /// Waits until the next tick is due, and then returns `None`, or until a datagram is accepted, which is written to the buffer. An
+    /// overdue tick is returned at once.
     pub fn wait<R: Clock>(&mut self, rt: &R, buf: &mut [u8]) -> io::Result<Option<usize>>
         requires { length buf.old ≡ largest_packet }
         ensures whole { length buf.new ≡ largest_packet }

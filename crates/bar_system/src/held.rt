@@ -1,4 +1,5 @@
-//! Files that a run creates. Each is locked until the run ends and is its owner's alone, and a key is lost to none of them.
+//! Files that a run creates. Each is locked until the run ends and accessible to its owner alone. None of them replaces a key, except with
+//! the same key.
 ghost use Rattle.std.specs.Prelude.{◌≡◌};
 
 use std::fs::{File, Metadata, OpenFile, OpenOptions, Permissions};
@@ -6,20 +7,20 @@ use std::io::{ErrorKind, Read};
 use std::os::unix::fs::{MetadataExt, OpenOptionsExt, PermissionsExt};
 use std::{fs, io, rt};
 
-/// What a created file is to its owner alone: read and written.
+/// The mode of a created file: its owner alone may read and write it.
 const OWNERS_ALONE: u32 = 0o600;
 
-/// How far a key text is looked for: a key file has less than 300 bytes.
+/// How many bytes of a file are searched for a key text. A key file has less than 300 bytes.
 const LONGEST_KEY: u64 = 4_096;
 
-/// What stands before a key file's secret, and how many digits that has.
+/// The text before the secret in a key file, and the number of digits of the secret.
 const SECRET: &str = "secret = \"";
 
 const SECRET_DIGITS: usize = 64;
 
 /// An open file of a runtime that can be locked.
 pub trait Lockable {
-    /// Locks it until it is closed. Where another run has locked it, the call fails.
+    /// Locks the file until it is closed. If another run has locked it, the call fails.
     fn lock_now(&self) -> io::Result<()>;
 }
 
@@ -29,7 +30,7 @@ impl Lockable for File {
     }
 }
 
-/// Which file it was, and how it stood.
+/// The identity of a file and its state when it was read.
 #[derive(Clone, Copy, PartialEq, Eq)]
 pub struct Mark {
     dev: u64,
@@ -39,12 +40,13 @@ pub struct Mark {
     changed: (i64, i64),
 }
 
-/// A file that is written beside another, whose place it takes as soon as it holds anything.
+/// The state of a file that is written beside an old one: the old file's path and handle, the new file's name, and whether it has replaced
+/// the old file. That happens as soon as it holds any bytes.
 #[derive(Drop)]
 pub struct Beside<F> {
     path: String,
     name: String,
-    // it is kept open for its lock
+    // the old file is kept open for its lock
     old: F,
     is_placed: bool,
 }
@@ -56,7 +58,7 @@ pub struct HeldFile<F> {
     beside: Option<Beside<F>>,
 }
 
-/// How an open file stands.
+/// The mark of an open file: its identity and current state.
 pub fn mark_of<F: OpenFile>(file: &F) -> io::Result<Mark> {
     Ok(standing(&file.metadata()?))
 }
@@ -102,7 +104,7 @@ fn secret_of<R: rt::Files + AllocGlobal>(rt: &R, path: &str) -> io::Result<Optio
     }
 }
 
-// Opens a file of this name, which may be new, and locks it. The name is still its own.
+// Opens the file of this name, creating it if `may_be_new`, and locks it. Then checks that the name still refers to it.
 fn open_locked<R: rt::Files<File: Lockable>>(
     rt: &R,
     path: &str,
@@ -119,13 +121,13 @@ fn open_locked<R: rt::Files<File: Lockable>>(
     Ok(file)
 }
 
-// Leaves a locked file empty and its owner's alone.
+// Empties a locked file and restricts its mode to its owner.
 fn empty<F: OpenFile>(file: &F) -> io::Result<()> {
     file.set_permissions(Permissions::from_mode(OWNERS_ALONE))?;
     file.set_len(0)
 }
 
-// Opens an empty file of this name, which was not read in this run, and may be no file but a device.
+// Opens an empty file of this name, which was not read in this run. The name may be that of a device.
 fn open_new<R: rt::Files<File: Lockable> + AllocGlobal>(
     rt: &R,
     path: &str,
@@ -144,7 +146,7 @@ fn open_new<R: rt::Files<File: Lockable> + AllocGlobal>(
     Ok(HeldFile { file, beside: None })
 }
 
-// Opens an empty file beside one of this name, which stands as it did when it was read in this run.
+// Opens an empty file beside the file of this name, which must be unchanged since it was read in this run.
 fn open_beside<R: rt::Files<File: Lockable> + AllocGlobal>(
     rt: &R,
     path: &str,
@@ -153,14 +155,14 @@ fn open_beside<R: rt::Files<File: Lockable> + AllocGlobal>(
     let path = String::from_str(rt.alloc(), fs::canonicalize(rt, path)?.as_path().as_str())?;
     let old = open_locked(rt, path.as_str(), false)?;
     let known = old.metadata()?;
-    // Under a second name it would stay as it was.
+    // Under a second name the old file would remain.
     if standing(&known) != was || known.nlink() != 1 {
         return Err(refusal());
     }
     let mut name = String::from_str(rt.alloc(), path.as_str())?;
     name.push_str(".new")?;
     let file = open_locked(rt, name.as_str(), true)?;
-    // What another run of the same key left there is written over.
+    // A file that an earlier run of the same key left there is overwritten.
     if file.metadata()?.len() > 0 {
         let other = secret_of(rt, name.as_str())?;
         if other.is_some() && other != secret_of(rt, path.as_str())? {
@@ -180,8 +182,8 @@ fn open_beside<R: rt::Files<File: Lockable> + AllocGlobal>(
     })
 }
 
-/// Opens an empty file of this name and locks it; or beside it, where it was read in this run. Where it can't be locked, isn't as it was
-/// when it was read, or holds a key text and wasn't read, the call fails, and the file is as it was.
+/// Opens an empty file of this name and locks it. If the file was read in this run, the empty file is opened beside it. The call fails and
+/// leaves the file unchanged if it can't be locked, if it changed since it was read, or if it holds a key text and wasn't read.
 pub fn open_held<R: rt::Files<File: Lockable> + AllocGlobal>(
     rt: &R,
     path: &str,
@@ -194,7 +196,7 @@ pub fn open_held<R: rt::Files<File: Lockable> + AllocGlobal>(
 }
 
 impl<F: OpenFile> HeldFile<F> {
-    /// The name under which its bytes stand.
+    /// The name of the file that holds the bytes.
     pub fn name<'a>(&'a self, path: &'a str) -> &'a str {
         match &self.beside {
             Some(beside) if !beside.is_placed => beside.name.as_str(),
@@ -202,7 +204,7 @@ impl<F: OpenFile> HeldFile<F> {
         }
     }
 
-    /// Leaves it empty again. A key text isn't emptied.
+    /// Empties the file again. The call fails if the file holds a key text.
     pub fn empty_again<R: rt::Files + AllocGlobal>(&self, rt: &R, path: &str) -> io::Result<()> {
         if !self.file.metadata()?.is_file() {
             return Ok(());
@@ -213,7 +215,8 @@ impl<F: OpenFile> HeldFile<F> {
         self.file.set_len(0)
     }
 
-    /// Has a file that holds something take the place of the one that it is beside of. Nothing but the same key takes that of a key.
+    /// If the file is written beside an old one, it replaces the old one, unless it already has. A key file is replaced only by the same
+    /// key.
     pub fn place<R: rt::Files + AllocGlobal>(&mut self, rt: &R) -> io::Result<()>
         ensures same { self.new.file ≡ self.old.file }
     {
@@ -229,7 +232,7 @@ impl<F: OpenFile> HeldFile<F> {
     }
 }
 
-// Has the file take its place, and stay there whatever becomes of the machine.
+// Renames the file over the old one and makes this durable against a crash of the machine.
 fn put_over<R: rt::Files + AllocGlobal, F: OpenFile>(
     rt: &R,
     file: &F,

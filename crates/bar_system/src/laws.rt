@@ -1,8 +1,8 @@
-//! What follows of histories.
+//! What follows from histories of calls on files.
 ghost use Rattle.bar_system.specs.Fitting.{SomeContentFits};
 
-/// Where each file was read before it was written, and once, or again with the same bytes, some content of the files at first fits what was
-/// read.
+/// If each file was read only before it was written, and every read of it gave the same bytes, then some initial content of the files fits
+/// all reads.
 pub fn some_content_fits()
     ensures { SomeContentFits }
 {}

@@ -1,5 +1,5 @@
-//! The system as the program's outside: its files, streams, child programs and the loopback network, each with a history of what was read,
-//! taken and handed on.
+//! The operating system as the program's outside: its files, streams, child programs and the loopback network. Each object has a history of
+//! what was read from it, received and passed to it.
 #![tactic(auto)]
 
 mod bound;

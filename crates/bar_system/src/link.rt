@@ -1,5 +1,5 @@
-//! The real link: a socket on the loopback address, which is that of the system. It tells what it is bound to, what the socket gave and what was
-//! handed over to it, and counts its faults.
+//! The real link: a UDP socket on the loopback address, that of the system or another. It reports its binding, the inputs it gave and the
+//! datagrams the socket took, and counts its faults.
 ghost use Rattle.std.specs.Prelude.{◌≡◌, ◌≢◌, ◌≤◌, ◌+◌, [], length, IfOk, OnOk, OnErr};
 ghost use Rattle.bar_outside.specs.Wire.{largest_packet};
 ghost use Rattle.bar_system.specs.History.{wire_by};
@@ -13,10 +13,10 @@ use std::io::ErrorKind;
 use std::net::{Net, UdpSocket};
 use std::time::Clock;
 
-/// A link over UDP on the loopback address. Ticks are due at the time that it is bound with and then at each length of a tick; those that
-/// are overdue come at once, one a call, before any datagram. What is no datagram of any session by its first bytes or its length is dropped,
-/// and so is what comes between two ticks behind 16,384 datagrams or 8 MiB. The socket isn't connected, so that a datagram to a port where
-/// nobody listens is lost and fails nothing.
+/// A link over UDP on the loopback address. The first tick is due at the time given to `bind`, and each later one a tick's length after the
+/// one before. Overdue ticks are returned at once, one a call, before any datagram. A datagram that can't belong to any session, by its
+/// first bytes or its length, is dropped. So is a datagram beyond 16,384 datagrams or 8 MiB between two ticks. The socket isn't connected,
+/// so a datagram to a port where nobody listens is lost without an error.
 #[derive(Drop)]
 pub struct RealLink<'a, R, S> {
     rt: &'a R,
@@ -28,7 +28,7 @@ pub struct RealLink<'a, R, S> {
 impl<'a, R> RealLink<'a, R, UdpSocket> {
     ghost use Rattle.bar_system.specs.RealLink.{wire_of};
 
-    /// A link over the network of the system that isn't bound, with no fault so far.
+    /// An unbound link over the network of the system, with no fault so far.
     pub fn new(rt: &'a R) -> Self
         ensures { wire_of result ≡ wire_by [] 0 }
     {
@@ -38,10 +38,10 @@ impl<'a, R> RealLink<'a, R, UdpSocket> {
 
 impl<'a, R, S> RealLink<'a, R, S> {
     ghost use Rattle.std.specs.Prelude.{⊤, Err};
-    ghost use Rattle.bar_outside.specs.Causes.{HasCause};
+    ghost use Rattle.bar_outside.specs.Code.Causes.{HasCause};
     ghost use Rattle.bar_system.specs.RealLink.{wire_of};
 
-    /// A link that isn't bound, with no fault so far.
+    /// An unbound link, with no fault so far.
     pub fn over(rt: &'a R) -> Self
         ensures { wire_of result ≡ wire_by [] 0 }
     {
@@ -53,7 +53,7 @@ impl<'a, R, S> RealLink<'a, R, S> {
         }
     }
 
-    /// Counts a fault, unless it is want of memory.
+    /// Counts a fault, unless memory ran out.
     fn fault(&mut self, error: &io::Error) -> LinkFault
         ensures cause { HasCause {T = ⊤} LinkFault.Failed self.old.faults self.new.faults (Err result) }
         ensures same { self.new.log.events ≡ self.old.log.events }
@@ -75,7 +75,7 @@ impl<R: Net + Clock, S: Socket> Link for RealLink<'_, R, S> {
 
     fn bind(&mut self, me: u16, port: u16, begin_ms: u64, tick_ms: u32) -> Result<(), LinkFault>
         ensures acts { Acts (bound_to (bound_by me port begin_ms tick_ms)) (wire_of self.old) (wire_of self.new) result }
-        // the socket is bound to the port of the party, if it says anything
+        // the socket is bound to the port of the party, if it keeps an account
         ensures hands_on { OnOk result (IsBoundTo S.account port (port + me) self.new.bound) }
         ensures kept { OnErr result (self.new.bound ≡ self.old.bound) }
     {
@@ -94,7 +94,7 @@ impl<R: Net + Clock, S: Socket> Link for RealLink<'_, R, S> {
         ensures takes { Takes buf.new (wire_of self.old) (wire_of self.new) result }
         // a socket has no end
         ensures no_end { IfOk result (λ taken. taken ≢ Taken.End) }
-        // what it gives is what the socket gave last, if it says anything
+        // the link gives the socket's last datagram, if the socket keeps an account
         ensures hands_on { TakesFrom S.account (given_by buf.new result) self.old.bound self.new.bound }
     {
         let taken = match &mut self.bound {
@@ -116,7 +116,7 @@ impl<R: Net + Clock, S: Socket> Link for RealLink<'_, R, S> {
 
     fn send(&mut self, to: u16, bytes: &[u8]) -> Result<(), LinkFault>
         ensures acts { Acts (sent_to to bytes.now) (wire_of self.old) (wire_of self.new) result }
-        // the socket was handed exactly this for the port of the party, if it says anything
+        // the socket was passed exactly this datagram for the port of the party, if it keeps an account
         ensures hands_on { OnOk result (HandsOn S.account to bytes.now self.old.bound self.new.bound) }
         ensures kept { OnErr result (Rests S.account self.old.bound self.new.bound) }
     {

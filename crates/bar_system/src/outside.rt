@@ -1,4 +1,4 @@
-//! The files and streams of the system. They tell what was read and what was handed over, and count their faults.
+//! The files and streams of the system. They report what was read and written, and count their faults.
 ghost use Rattle.std.specs.Prelude.{◌≡◌, ◌≤◌, ◌<◌, [], ◌∷◌, length, take, slice_get, string_bytes, All, IfNone, IfSome, IsSomeAnd, IsTrue, OnErr, OnOk};
 ghost use Rattle.std.specs.Io.KnownBytes.{Appends as GetsBytes};
 ghost use Rattle.bar_outside.specs.Disk.{Content, CreatedFiles};
@@ -13,24 +13,24 @@ use std::fs::OpenFile;
 use std::io::{ErrorKind, Read, Stderr, Stdout, Write};
 use std::{fs, io, rt};
 
-/// A file that was created, kept open and locked for what is appended to it.
+/// A created file, kept open and locked for appends.
 #[derive(Drop)]
 pub struct CreatedFile<F> {
     path: String,
     held: HeldFile<F>,
 }
 
-/// A file that was read, and how it stood then.
+/// A file that was read, and its mark at that time.
 #[derive(Drop)]
 pub struct SeenFile {
     path: String,
     mark: Mark,
 }
 
-/// Files of the system. They tell what was read and what was handed over. Each that is created is locked until the end, and its owner's alone;
-/// one that another run has locked isn't created. One that is created after it was read must be as it was then: it is written beside, under
-/// its name and `.new`, and takes its place at the first append that is done, until when others see the old one. A key is written over by
-/// nothing but the same key.
+/// Files of the system. They report what was read and written. A created file is locked until the end and accessible to its owner alone. If
+/// another run has locked a file, `create` fails. If a file is created after it was read, it must be unchanged since then. The new bytes
+/// are written to a file whose name has `.new` added. This file replaces the old one at the first successful append; until then others see
+/// the old file. A key is overwritten only by the same key.
 #[derive(Drop)]
 pub struct RealFiles<'a, R: rt::Files> {
     rt: &'a R,
@@ -43,10 +43,10 @@ pub struct RealFiles<'a, R: rt::Files> {
 
 impl<'a, R: rt::Files + AllocGlobal> RealFiles<'a, R> {
     ghost use Rattle.std.specs.Prelude.{⊤, Err};
-    ghost use Rattle.bar_outside.specs.Causes.{HasCause};
+    ghost use Rattle.bar_outside.specs.Code.Causes.{HasCause};
     ghost use Rattle.bar_told.specs.Noted.{event_of};
 
-    /// The files that this runtime reaches. None was created so far.
+    /// The files that this runtime reaches. None has been created so far.
     pub fn new(rt: &'a R) -> Self
         ensures { (was : Content) → disk_by result.log.events result.faults was ≡ disk_by [] 0 was }
     {
@@ -59,7 +59,7 @@ impl<'a, R: rt::Files + AllocGlobal> RealFiles<'a, R> {
         }
     }
 
-    // Counts a fault and notes it, unless it is want of memory.
+    // Counts and notes a fault, unless memory ran out.
     fn fault(&mut self, error: &io::Error, note: &Note<'_>) -> FileFault
         requires { IsRefusal (event_of note.now) }
         ensures cause { HasCause {T = ⊤} FileFault.Failed self.old.faults self.new.faults (Err result) }
@@ -76,7 +76,7 @@ impl<'a, R: rt::Files + AllocGlobal> RealFiles<'a, R> {
     }
 }
 
-// All the bytes of a file, read once, and how it stood before. A file that is too large is an error.
+// Reads all the bytes of a file, and its mark before the read. A file that is too large is an error.
 fn read_file<R: rt::Files + AllocGlobal>(rt: &R, path: &str) -> io::Result<(Vec<u8>, Mark)> {
     let mut bytes = Vec::new(rt.alloc());
     let file = fs::open(rt, path)?;
@@ -88,7 +88,7 @@ fn read_file<R: rt::Files + AllocGlobal>(rt: &R, path: &str) -> io::Result<(Vec<
     Ok((bytes, mark))
 }
 
-// All the bytes of a file, and notes how it stood. One that was created in this run is read where its bytes stand.
+// Reads all the bytes of a file and notes its mark. A file created in this run is read under the name that holds its bytes.
 fn read_seen<R: rt::Files + AllocGlobal>(
     rt: &R,
     created: &[CreatedFile<R::File>],
@@ -106,7 +106,7 @@ fn read_seen<R: rt::Files + AllocGlobal>(
     Ok(bytes)
 }
 
-// How a file stood when it was read last.
+// The mark of a file when it was last read.
 fn mark_seen(seen: &[SeenFile], path: &str) -> Option<Mark> {
     let mut last = None;
     for file in seen {
@@ -117,7 +117,7 @@ fn mark_seen(seen: &[SeenFile], path: &str) -> Option<Mark> {
     last
 }
 
-// Leaves an empty file of this name, and keeps it open.
+// Creates an empty file of this name, and keeps it open.
 fn create_file<R: rt::Files<File: Lockable> + AllocGlobal>(
     rt: &R,
     created: &mut Vec<CreatedFile<R::File>>,
@@ -132,7 +132,7 @@ fn create_file<R: rt::Files<File: Lockable> + AllocGlobal>(
         return created[place].held.empty_again(rt, path);
     }
     let name = String::from_str(rt.alloc(), path)?;
-    // The place is taken first, so that a file that was made has one.
+    // Memory for the entry is reserved first, so that every created file gets one.
     created.reserve(1)?;
     let held = open_held(rt, path, mark_seen(seen, path))?;
     if created.push(CreatedFile { path: name, held }).is_err() {
@@ -141,7 +141,7 @@ fn create_file<R: rt::Files<File: Lockable> + AllocGlobal>(
     Ok(())
 }
 
-// The place of a file of this name that was created last.
+// The index of the file of this name that was created last.
 fn place_of<F>(created: &[CreatedFile<F>], path: &str) -> Option<usize>
     ensures within { IfSome result (λ place. place < length created.now) }
     ensures named { IfSome result (λ place. IsSomeAnd (slice_get created.now place) (λ f. string_bytes f.path ≡ path.now)) }
@@ -155,7 +155,7 @@ fn place_of<F>(created: &[CreatedFile<F>], path: &str) -> Option<usize>
     None
 }
 
-// Adds the bytes to an open file, which takes its place then, and answers how many it took.
+// Appends the bytes to an open file, which then replaces the old one, if any. Returns how many bytes it took.
 fn add_bytes<R: rt::Files + AllocGlobal, F: Write + OpenFile>(
     rt: &R,
     held: &mut HeldFile<F>,
@@ -163,7 +163,7 @@ fn add_bytes<R: rt::Files + AllocGlobal, F: Write + OpenFile>(
 ) -> (usize, io::Result<()>)
     ensures few { result.0 ≤ length bytes.now }
     ensures all { OnOk result.1 (result.0 ≡ length bytes.now) }
-    // a file that says what it holds has got exactly these, also where it can't take its place
+    // if the file reports its contents, exactly these bytes were appended, even if it can't replace the old file
     ensures exact { GetsBytes (F.contents held.old.file) (F.contents held.new.file) (take result.0 bytes.now) }
 {
     let (took, written) = write_bytes(&mut held.file, bytes);
@@ -173,7 +173,8 @@ fn add_bytes<R: rt::Files + AllocGlobal, F: Write + OpenFile>(
     (took, held.place(rt))
 }
 
-// Adds the bytes to a file that was created, which takes its place then, and answers how many it took; or `None`, where it wasn't.
+// Appends the bytes to a created file, which then replaces the old one, if any. Returns how many bytes it took, or `None` if no file of
+// this name was created.
 fn append_file<R: rt::Files + AllocGlobal>(
     rt: &R,
     created: &mut Vec<CreatedFile<R::File>>,
@@ -186,7 +187,7 @@ fn append_file<R: rt::Files + AllocGlobal>(
         IfSome result (λ _. IsTrue (here path.now)) }
     ensures kept { (here : CreatedFiles) → All (λ f. IsTrue (here (string_bytes f.path))) created.old.items →
         All (λ f. IsTrue (here (string_bytes f.path))) created.new.items }
-    // a file that says what it holds has got exactly these
+    // if the file reports its contents, exactly these bytes were appended
     ensures exact { IfSome result (λ r. GotPiece R.File.contents path.now (take r.0 bytes.now) created.old.items created.new.items) }
     ensures none { IfNone result (created.new.items ≡ created.old.items) }
 {
@@ -223,7 +224,7 @@ impl<R: rt::Files<File: Lockable> + AllocGlobal> Files for RealFiles<'_, R> {
     fn append(&mut self, path: &str, bytes: &[u8]) -> Result<(), FileFault>
         ensures appends { (was : Content) → Appends path.now bytes.now (disk_by self.old.log.events self.old.faults was)
             (disk_by self.new.log.events self.new.faults was) result }
-        // what is told is what a file got that says what it holds
+        // if a file reports its contents, the history says what was appended to it
         ensures hands_on { AddsTo R.File.contents path.now self.old.created.items self.new.created.items
             self.old.log.events self.new.log.events }
     {
@@ -266,7 +267,7 @@ impl Write for Standard {
     }
 }
 
-/// A stream of the system. It tells what was handed over to it.
+/// A stream of the system. It reports what was written to it.
 #[derive(Drop)]
 pub struct RealSink<W: Write> {
     stream: W,
@@ -277,7 +278,7 @@ pub struct RealSink<W: Write> {
 impl<W: Write> RealSink<W> {
     ghost use Rattle.bar_system.specs.RealSink.{stream_of};
 
-    /// This stream, to which nothing was handed over so far, with no fault.
+    /// This stream, with nothing written so far and no fault.
     pub fn new(stream: W) -> Self
         ensures { stream_of result ≡ stream_by [] 0 }
     {
@@ -289,11 +290,11 @@ impl<W: Write> RealSink<W> {
     }
 }
 
-// Writes the bytes, and answers how many of them the stream took, and why it took no more.
+// Writes the bytes. Returns how many of them the stream took, and why it took no more.
 fn write_bytes<W: Write>(stream: &mut W, bytes: &[u8]) -> (usize, io::Result<()>)
     ensures few { result.0 ≤ length bytes.now }
     ensures all { OnOk result.1 (result.0 ≡ length bytes.now) }
-    // a stream that says what it holds has got exactly these
+    // if the stream reports its contents, exactly these bytes were appended
     ensures exact { GetsBytes (W.contents stream.old) (W.contents stream.new) (take result.0 bytes.now) }
 {
     let mut took = 0;
@@ -322,7 +323,7 @@ impl<W: Write> Sink for RealSink<W> {
 
     fn write(&mut self, bytes: &[u8]) -> Result<(), SinkFault>
         ensures writes { Writes bytes.now (stream_of self.old) (stream_of self.new) result }
-        // what is told is what a stream got that says what it holds
+        // if the stream reports its contents, the history says what was appended to it
         ensures hands_on { HandsOn W.contents self.old self.new }
     {
         let (took, written) = write_bytes(&mut self.stream, bytes);

@@ -1,12 +1,12 @@
-//! What a link takes between two ticks.
+//! The limits on what a link takes between two ticks.
 use bar_outside::LARGEST_PACKET;
 
-/// How many datagrams are taken between two ticks. The parties of a session send a peer less than a thousand in one: a manifest, 128 blocks,
-/// a REQUEST and a QUERY from each of 199 peers, and what belongs to six exchanges. It is a quarter of those before which pacing puts a tick,
-/// so what comes moves no clock.
+/// How many datagrams are taken between two ticks. In one tick the parties of a session send a peer less than a thousand: a manifest, 128
+/// blocks, a REQUEST and a QUERY from each of 199 peers, and those of six exchanges. The limit is a quarter of the number after which
+/// pacing inserts a tick, so datagrams received never move the clock.
 const MOST_DATAGRAMS: u32 = 16_384;
 
-/// How many bytes these have. Those from the parties have less than five million, with the longest signatures.
+/// How many bytes these datagrams may have in all. Those from the parties have less than five million, with the longest signatures.
 const MOST_BYTES: usize = 8 << 20;
 
 /// How many datagrams and bytes are still taken before the next tick.
@@ -35,7 +35,7 @@ fn lengths_of(kind: u8) -> (usize, usize) {
     }
 }
 
-/// Whether a datagram may be one of a session, by its first bytes and its length.
+/// Whether a datagram may belong to a session, by its first bytes and its length.
 fn may_be_read(datagram: &[u8]) -> bool {
     match datagram {
         [0xba, 0x47, 1 | 2 | 3, kind, ..] => {
@@ -47,7 +47,7 @@ fn may_be_read(datagram: &[u8]) -> bool {
 }
 
 impl Room {
-    /// That of a tick.
+    /// The full room at the start of a tick.
     pub fn new() -> Room {
         Room {
             datagrams: MOST_DATAGRAMS,
@@ -55,7 +55,7 @@ impl Room {
         }
     }
 
-    /// Whether a datagram is taken; then there is less room.
+    /// Whether a datagram is taken. If so, the room shrinks by it.
     pub fn takes(&mut self, datagram: &[u8]) -> bool {
         if !may_be_read(datagram) || self.datagrams == 0 || self.bytes < datagram.len() {
             return false;

@@ -1,12 +1,12 @@
-//! The socket of a link: that of the system behind a trait, so that it is clear what a link hands to one.
+//! The socket of a link, as a trait over the system's socket. The trait makes explicit what a link passes to a socket.
 ghost use Rattle.std.specs.Prelude.{None};
 
 use std::io;
 use std::net::{Ipv4Addr, Net, UdpSocket};
 use std::time::Duration;
 
-/// A socket of datagrams on the loopback address. One may say, by `account`, what it is bound to, was handed and gave; one that doesn't never
-/// does.
+/// A datagram socket on the loopback address. By `account` it may report what it is bound to, was passed and gave. A socket without an
+/// account never gets one.
 pub trait Socket: Drop {
     ghost use Rattle.std.specs.Prelude.{◌≡◌, ◌≤◌, Option, length, IfOk, OnOk, OnErr};
     ghost use Rattle.std.specs.Option.{option_map};
@@ -14,7 +14,7 @@ pub trait Socket: Drop {
 
     ghost account: { Self → Option Account };
 
-    /// A socket that is bound to this port.
+    /// Opens a socket bound to this port.
     fn open<R: Net>(rt: &R, port: u16) -> io::Result<Self>
         ensures { IfOk result (λ socket. IsOpened port (account socket)) };
 
@@ -23,14 +23,14 @@ pub trait Socket: Drop {
         ensures handed { OnOk result (account self.new ≡ option_map (handed_to port bytes.now) (account self.old)) }
         ensures kept { OnErr result (account self.new ≡ account self.old) };
 
-    /// Takes the next datagram, which is written to the front of the buffer, and answers its length. Where none comes in this time, the call
+    /// Receives the next datagram, writes it to the start of the buffer and returns its length. If none arrives in this time, the call
     /// fails.
     fn receive(&mut self, wait: Duration, buf: &mut [u8]) -> io::Result<usize>
         ensures within { IfOk result (λ len. len ≤ length buf.new) }
         ensures gave { account self.new ≡ option_map (gave_all (received buf.new result)) (account self.old) };
 }
 
-/// A socket of the system. It says nothing of itself.
+/// A socket of the system. It keeps no account.
 impl Socket for UdpSocket {
     ghost account = { λ _. None };
 

@@ -1,6 +1,6 @@
-//! The real child programs. They tell what was started and waited for, and count their faults.
+//! The real child programs. They report what was started and waited for, and count their faults.
 ghost use Rattle.std.specs.Prelude.{◌≡◌, [], length, true};
-ghost use Rattle.bar_outside.specs.OpenChildren.{are_below};
+ghost use Rattle.bar_outside.specs.Code.OpenChildren.{are_below};
 ghost use Rattle.bar_system.specs.History.{calls_of, children_by};
 
 use bar_outside::{ChildFault, Spawner};
@@ -23,7 +23,7 @@ pub struct RealSpawner<'a, R: Processes> {
     ghost below: { are_below (length children.items) (calls_of log.events) ≡ true },
 }
 
-// Starts the program that the first word names.
+// Starts the program that the first argument names.
 fn start<R: Processes + AllocGlobal>(rt: &R, words: &[String]) -> io::Result<Child<R::Started>> {
     let Some((program, others)) = words.split_first() else {
         return Err(io::Error::from(ErrorKind::InvalidInput));
@@ -36,7 +36,7 @@ fn start<R: Processes + AllocGlobal>(rt: &R, words: &[String]) -> io::Result<Chi
     command.spawn(rt)
 }
 
-// Puts the child at this place.
+// Puts the child at this index.
 fn put<R: Processes>(
     children: &mut Vec<Option<Child<R::Started>>>,
     number: usize,
@@ -49,7 +49,7 @@ fn put<R: Processes>(
     }
 }
 
-// The number that a program ended with, or that of its signal and 128.
+// The exit status of a program, or 128 plus the number of the signal that ended it.
 fn code_of(status: ExitStatus) -> i32 {
     match status.code() {
         Some(code) => code,
@@ -57,7 +57,7 @@ fn code_of(status: ExitStatus) -> i32 {
     }
 }
 
-// Waits for the child at this place, which is empty then.
+// Waits for the child at this index, and empties the entry.
 fn wait<R: Processes>(
     children: &mut Vec<Option<Child<R::Started>>>,
     child: usize,
@@ -75,7 +75,7 @@ fn wait<R: Processes>(
 
 impl<'a, R: Processes + AllocGlobal> RealSpawner<'a, R> {
     ghost use Rattle.std.specs.Prelude.{⊤, Err};
-    ghost use Rattle.bar_outside.specs.Causes.{HasCause};
+    ghost use Rattle.bar_outside.specs.Code.Causes.{HasCause};
 
     /// No child so far.
     pub fn new(rt: &'a R) -> Self
@@ -89,7 +89,7 @@ impl<'a, R: Processes + AllocGlobal> RealSpawner<'a, R> {
         }
     }
 
-    // Counts a fault, unless it is want of memory.
+    // Counts a fault, unless memory ran out.
     fn fault(&mut self, error: &io::Error) -> ChildFault
         ensures cause { HasCause {T = ⊤} ChildFault.Failed self.old.faults self.new.faults (Err result) }
         ensures same { self.new.log.events ≡ self.old.log.events }
@@ -107,7 +107,7 @@ impl<R: Processes + AllocGlobal> Spawner for RealSpawner<'_, R> {
 
     fn start(&mut self, words: &[String]) -> Result<usize, ChildFault> {
         let number = self.children.len();
-        // The place is taken first, so that a program that was started has one.
+        // The entry is added first, so that every started program has one.
         if self.children.push(None).is_err() {
             return Err(ChildFault::NoMemory);
         }

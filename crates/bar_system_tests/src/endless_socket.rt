@@ -1,4 +1,4 @@
-//! A socket without a network: it gives the same datagram at once, as often as it is asked.
+//! A socket without a network, which gives the same datagram at once whenever it is asked.
 ghost use Rattle.std.specs.Prelude.{None};
 
 use bar_outside::LARGEST_PACKET;
@@ -7,10 +7,10 @@ use std::io;
 use std::net::Net;
 use std::time::Duration;
 
-/// What the datagrams begin with, but for their kind.
+/// The start of the datagrams, up to their kind.
 const FRONT: [u8; 3] = [0xba, 0x47, 1];
 
-/// A socket that gives short datagrams, or, at an odd port, the longest ones; and what it gives. It says nothing of itself.
+/// A socket that gives short datagrams, or the longest ones at an odd port. The fields say what it gives. It keeps no account.
 #[derive(Drop)]
 pub struct EndlessSocket {
     kind: u8,

@@ -1,4 +1,4 @@
-//! The real files, in the folder where the tests run.
+//! Tests of the real files, in the folder where the tests run.
 use bar_outside::{FileFault, Files};
 use bar_system::RealFiles;
 use std::fs;
@@ -76,14 +76,14 @@ fn a_key_is_written_over_by_itself_alone(rt: HostRuntime) -> Result<(), Fail> {
     let spent = key_text(&rt, "a", "true")?;
     let other = key_text(&rt, "b", "true")?;
     assert!(rt; fs::write(&rt, "own key", fresh.as_bytes()).is_ok());
-    // who hasn't read it, or found it otherwise, doesn't create it
+    // if it wasn't read, or has changed since it was read, it isn't created
     assert_eq!(rt;
         RealFiles::new(&rt).create("own key"),
         Err(FileFault::Failed)
     );
     let mut late = RealFiles::new(&rt);
     assert!(rt; late.read("own key").is_ok());
-    // another text isn't put in its place
+    // it isn't replaced by another text
     let mut liar = RealFiles::new(&rt);
     assert!(rt; liar.read("own key").is_ok());
     assert_eq!(rt; liar.create("own key"), Ok(()));

@@ -1,6 +1,6 @@
-//! Tests of the files, the link and the child programs of the system, by their public calls.
+//! Tests of the files, the link and the child programs of the system, through their public calls.
 //!
-//! They stand in a crate of their own, since a crate with tests is proved twice.
+//! They are in a crate of their own, because a crate with tests is proved twice.
 #![tactic(auto)]
 
 #[cfg(test)]

@@ -1,4 +1,4 @@
-//! Real links over the loopback network.
+//! Tests of real links over the loopback network.
 use bar_outside::{LARGEST_PACKET, Link, LinkFault, Taken};
 use bar_system::RealLink;
 use std::io;
@@ -13,7 +13,7 @@ pub fn millis<R: Clock>(rt: &R) -> io::Result<u64> {
     }
 }
 
-/// A port of party 0, by the time. Tests that run at once have parties of their own.
+/// A port of party 0, chosen by the time. Tests that run at the same time use different parties.
 fn port_now(rt: &HostRuntime) -> Result<u16, Fail> {
     let port = 20_000 + millis(rt)? % 20_000;
     Ok(u16::try_from(port).unwrap_or(20_000))
@@ -33,13 +33,13 @@ fn a_datagram_arrives(rt: HostRuntime) -> Result<(), Fail> {
     let mut two = RealLink::new(&rt);
     assert_eq!(rt; one.bind(1, port, NEVER, 1_000), Ok(()));
     assert_eq!(rt; two.bind(2, port, NEVER, 1_000), Ok(()));
-    // what is no datagram of any session is dropped
+    // what can't be a datagram of any session is dropped
     assert_eq!(rt; one.send(2, b"hello"), Ok(()));
     assert_eq!(rt; one.send(2, &DATAGRAM[..21]), Ok(()));
     assert_eq!(rt; one.send(2, DATAGRAM), Ok(()));
     assert_eq!(rt; two.next(&mut buf), Ok(Taken::Datagram(22)));
     assert!(rt; buf.starts_with(DATAGRAM));
-    // each goes to its receiver alone
+    // each is sent to its receiver alone
     assert_eq!(rt; two.send(2, b"\xba\x47\x01\x09its own, 18 bytes."), Ok(()));
     assert_eq!(rt; two.send(1, DATAGRAM), Ok(()));
     assert_eq!(rt; two.next(&mut buf), Ok(Taken::Datagram(22)));
@@ -57,7 +57,7 @@ fn the_largest_datagram_arrives_whole(rt: HostRuntime) -> Result<(), Fail> {
     let mut two = RealLink::new(&rt);
     assert_eq!(rt; one.bind(6, port, NEVER, 1_000), Ok(()));
     assert_eq!(rt; two.bind(7, port, NEVER, 1_000), Ok(()));
-    // a datagram to a port where nobody listens fails nothing
+    // sending to a port where nobody listens doesn't fail
     assert_eq!(rt; two.send(8, b"lost"), Ok(()));
     buf[..4].copy_from_slice(b"\xba\x47\x02\x0b");
     assert_eq!(rt; two.send(6, &buf), Ok(()));

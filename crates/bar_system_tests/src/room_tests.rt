@@ -1,4 +1,4 @@
-//! What a link takes between two ticks, over a socket that gives without end.
+//! Tests of the limits on what a link takes between two ticks, over a socket that never runs out.
 ghost use Rattle.std.specs.Prelude.{◌≤◌, length};
 ghost use Rattle.bar_outside.specs.Wire.{largest_packet};
 
@@ -12,10 +12,10 @@ use std::test::Fail;
 /// More datagrams than are taken.
 const MANY: usize = 100_000;
 
-/// How long it takes until the first tick, in milliseconds.
+/// The time until the first tick, in milliseconds.
 const BEFORE: u64 = 1_000;
 
-/// How many datagrams are taken before the next tick, behind which another one is taken.
+/// How many datagrams are taken before the next tick. After that tick another one must be taken.
 fn taken_into<L: Link>(link: &mut L, buf: &mut [u8]) -> Result<usize, Fail>
     requires { largest_packet ≤ length buf.old }
 {
@@ -34,7 +34,7 @@ fn taken_into<L: Link>(link: &mut L, buf: &mut [u8]) -> Result<usize, Fail>
     Ok(MANY)
 }
 
-/// The same, with a buffer of its own.
+/// The same, with a new buffer.
 fn taken_before<L: Link>(alloc: Global, link: &mut L) -> Result<usize, Fail> {
     let mut buf = vec![in alloc; 0; LARGEST_PACKET]?;
     taken_into(link, &mut buf)
@@ -42,7 +42,7 @@ fn taken_before<L: Link>(alloc: Global, link: &mut L) -> Result<usize, Fail> {
 
 #[test]
 fn a_tick_has_room_for_so_much(rt: HostRuntime) -> Result<(), Fail> {
-    // 16,384 short ones, or as many long ones as 8 MiB have room for
+    // 16,384 short ones, or as many long ones as fit into 8 MiB
     for (me, room) in [(0, 16_384), (1, 128)] {
         let mut link: RealLink<'_, HostRuntime, EndlessSocket> = RealLink::over(&rt);
         let begin = millis(&rt)?.saturating_add(BEFORE);

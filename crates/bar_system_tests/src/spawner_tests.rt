@@ -1,4 +1,4 @@
-//! Real child programs, and their statuses.
+//! Tests of real child programs and their statuses.
 use bar_outside::{ChildFault, Spawner};
 use bar_system::RealSpawner;
 use std::alloc::{AllocError, Global};
@@ -16,7 +16,7 @@ fn shell(alloc: Global, script: &str) -> Result<Vec<String>, AllocError> {
 fn children_end_with_their_statuses(rt: HostRuntime) -> Result<(), Fail> {
     let alloc = rt.alloc();
     let mut spawner = RealSpawner::new(&rt);
-    // a status, another one, and a signal
+    // two exit statuses, and a signal
     for (script, status) in [("exit 0", 0), ("exit 6", 6), ("kill -9 $$", 137)] {
         let words = shell(alloc, script)?;
         assert!(rt; 0 < words.len());

@@ -1,9 +1,9 @@
--- A list written over a part of another.
+-- A list that is written over a part of another.
 use Rattle.std.proofs.Common.{◌≡◌, ℕ, ◌+◌, ◌-◌, ◌≤◌, List, ◌++◌, length, take, drop, sym, ap, ◌∙◌, inl, inr, ◌⊎◌, append_assoc, length-append, length-drop, arith}
 use Rattle.std.proofs.lemmas.List.{length-take, drop-append-le, take-append-le, drop-drop, take-take, drop-take}
 use Rattle.std.proofs.Math.Seq.{drop-append_seam, drop-append-add, take-append_seam}
 
--- what is written
+-- the part that is written
 pub written : {A : Type 0} (xs ys : List A) (s : ℕ) → s ≤ length xs → take (length ys) (drop s (take s xs ++ (ys ++ drop (s + length ys) xs))) ≡ ys
 written xs ys s le =
     let front : length (take s xs) ≡ s = omega (arith, length-take s xs, le) in
@@ -13,7 +13,7 @@ written xs ys s le =
 pub written_len : {A : Type 0} (xs ys : List A) (s : ℕ) → s + length ys ≤ length xs → length (take s xs ++ (ys ++ drop (s + length ys) xs)) ≡ length xs
 written_len xs ys s le = omega (arith, length-append (take s xs) (ys ++ drop (s + length ys) xs), length-append ys (drop (s + length ys) xs), length-take s xs, length-drop (s + length ys) xs, le)
 
--- a part beside it stays
+-- a part beside it is unchanged
 pub beside : {A : Type 0} (xs ys : List A) (s a c : ℕ) → s + length ys ≤ length xs → (a + c ≤ s) ⊎ (s + length ys ≤ a) → take c (drop a (take s xs ++ (ys ++ drop (s + length ys) xs))) ≡ take c (drop a xs)
 beside xs ys s a c le (inl before) =
     let rest = ys ++ drop (s + length ys) xs in

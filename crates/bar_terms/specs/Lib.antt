@@ -1,5 +1,3 @@
 pub mod Table
-pub mod Room
+pub mod Code
 pub mod Terms
-pub mod Windows
-pub mod Known

@@ -15,7 +15,7 @@ use Rattle.bar_terms.specs.Table.{Table, none_past_end}
 abbrev pub trade_count : ℕ → List UpdateId → List UpdateId → ℕ
 trade_count cap ha hb = min cap (min (length (minus ha hb)) (length (minus hb ha)))
 
--- what a responder wants of the young updates that it is offered, and what it gives of the aged ones for so many
+-- what a responder wants of the young updates that it is offered, and what it gives of the aged ones in return
 abbrev pub wanted : ℕ → List UpdateId → List UpdateId → List UpdateId
 wanted cap young held = take cap (minus young held)
 
@@ -37,7 +37,7 @@ promised_junk (forms.Push young aged want give junk) Responder = junk
 abbrev pub promise : ℕ → Terms → Role → List Item
 promise cap terms role = map Update (promised_updates cap terms role) ++ map Junk (range_with_len 0 (promised_junk terms role))
 
--- the lines on an offer: the rounds of its young and of its aged updates, their numbers, and the ends of known lists
+-- the rules for an offer: the rounds of its young and of its aged updates, their numbers, and the ends of known lists
 abbrev pub offer_rounds : ℕ → ℕ → List UpdateId → List UpdateId → Bool
 offer_rounds life round young aged =
     is_of_rounds (max 1 (round - 1)) round young && is_of_rounds (first_round life round) (round - life / 2) aged
@@ -49,7 +49,7 @@ abbrev pub offer_ok : ℕ → ℕ → Table → ℕ → List UpdateId → List U
 offer_ok cap life table round young aged =
     offer_rounds life round young aged && offer_sizes cap young aged && (none_past_end table young && none_past_end table aged)
 
--- the lines on the answer to an offer: what is wanted, given and padded
+-- the rules for the answer to an offer: what is wanted, given and padded
 abbrev pub answer_ok : ℕ → List UpdateId → List UpdateId → List UpdateId → List UpdateId → ℕ → Bool
 answer_ok cap young aged want give junk =
     (is_inside want young && is_inside give aged) && (nat_le 1 (length want) && nat_le (length want) cap) &&
@@ -62,12 +62,12 @@ terms_ok cap life table round (forms.Balanced nonce ha hb) =
 terms_ok cap life table round (forms.Push young aged want give junk) =
     offer_ok cap life table round young aged && answer_ok cap young aged want give junk
 
--- whether they are valid under the empty table, the rounds of an offer aside: then each side promises something
+-- whether they are valid under the empty table, apart from the rounds of an offer; then each side promises something
 abbrev pub can_promise : ℕ → Terms → Bool
 can_promise cap (forms.Balanced nonce ha hb) = nat_le 1 (trade_count cap ha hb)
 can_promise cap (forms.Push young aged want give junk) = offer_sizes cap young aged && answer_ok cap young aged want give junk
 
--- the line on the rounds, alone
+-- the rule on the rounds alone
 abbrev pub rounds_ok : ℕ → ℕ → Terms → Bool
 rounds_ok life round (forms.Balanced nonce ha hb) = true
 rounds_ok life round (forms.Push young aged want give junk) = offer_rounds life round young aged

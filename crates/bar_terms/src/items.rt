@@ -7,7 +7,8 @@ pub enum Item {
     Junk(u8),
 }
 
-/// What a side promises: the first `len` of `items`, updates in order and then junk from 0 on. The other items mean nothing.
+/// The items that a side promises: the first `len` of `items`, updates in order and then junk from number 0 on. The other items have no
+/// meaning.
 #[derive(Clone, Copy, Debug, PartialEq, Eq)]
 pub struct Promise {
     pub items: [Item; MOST_ITEMS],

@@ -1,5 +1,5 @@
 ghost use Rattle.std.specs.Prelude.{◌≡◌, ◌-◌, length};
-ghost use Rattle.bar_window.specs.Window.{members, IsAligned};
+ghost use Rattle.bar_window.specs.Code.Window.{members, IsAligned};
 ghost use Rattle.bar_terms.specs.Terms.{wanted, given};
 
 use bar_window::Window;
@@ -12,8 +12,8 @@ pub struct PushAnswer {
     pub junk: u8,
 }
 
-/// The answer of a responder that holds the updates `held` of the same window. It wants the first `cap` of the young updates that it lacks,
-/// and gives the first of the aged ones that it holds, at most as many as it wants.
+/// The answer of a responder that holds the updates `held` of the same window. It wants the first `cap` of the young updates that it lacks.
+/// It gives the first of the aged ones that it holds, at most as many as it wants.
 pub fn push_answer(young: &Window, aged: &Window, held: &Window, cap: u8) -> PushAnswer
     requires young { IsAligned young.now held.now }
     requires aged { IsAligned aged.now held.now }

@@ -1,4 +1,4 @@
--- What a log tells of one call.
+-- The entry of a log for one call.
 use Rattle.std.specs.Prelude.{ℕ, ℤ, List, Option}
 
 pub data Event : Type 0 where

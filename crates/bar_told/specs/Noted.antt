@@ -1,4 +1,4 @@
--- What a note tells.
+-- The event that a note records.
 use Rattle.std.specs.Prelude.{map, string_bytes}
 use Rattle.bar_told.specs.Event.{Event, wrote, bound, ticked, came, sent, started, waited, read, made, added, unread, unmade, unadded}
 use Rattle.bar_told.specs.declared.log.Note.{Note}

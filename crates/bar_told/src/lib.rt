@@ -1,4 +1,4 @@
-//! A history of calls that proofs alone read: what an object of the system was asked for, and how it answered.
+//! A history of calls that only proofs read: what an object of the system was asked for, and how it answered.
 #![tactic(auto)]
 
 mod log;

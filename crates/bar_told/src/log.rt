@@ -5,7 +5,7 @@ ghost use Rattle.bar_told.specs.Event.{Event};
 
 use std::marker::Model;
 
-/// What happened, the last first.
+/// What happened, newest first.
 #[derive(Drop)]
 pub struct Log {
     pub ghost events: { List Event },
@@ -23,25 +23,25 @@ pub enum Note<'a> {
     /// A link was bound to a party of a session with this port, the time of its first tick and the length of a tick.
     Bound(u16, u16, u64, u32),
     Ticked,
-    /// A datagram came.
+    /// A datagram arrived.
     Came(&'a [u8]),
     /// A datagram was sent to a party.
     Sent(u16, &'a [u8]),
-    /// A child was started by these words.
+    /// The child of this number was started with these arguments.
     Started(&'a [String], usize),
     /// A child ended with this status, or the wait for it was refused.
     Waited(usize, Option<i32>),
-    /// A file had these bytes when it was read.
+    /// A file held these bytes when it was read.
     Read(&'a str, &'a [u8]),
-    /// An empty file was made.
+    /// An empty file was created.
     Made(&'a str),
-    /// These bytes were added to a file.
+    /// These bytes were appended to a file.
     Added(&'a str, &'a [u8]),
     /// A file could not be read.
     Unread(&'a str),
-    /// A file could not be made.
+    /// A file could not be created.
     Unmade(&'a str),
-    /// Not all could be added to a file.
+    /// Not all bytes could be appended to a file.
     Unadded(&'a str),
 }
 
@@ -55,7 +55,7 @@ impl Log {
         Log {}
     }
 
-    /// The history with one call more.
+    /// The history with one more call.
     #[inline(always)]
     pub fn then(&self, _note: &Note<'_>) -> Log
         ensures { result.events ≡ event_of _note.now ∷ self.now.events }

@@ -1,4 +1,4 @@
--- Windows of the same rounds are equal exactly if they have the same members.
+-- Windows of the same rounds are equal if and only if they have the same members.
 use mathlib.Core.Bool.{beq}
 use Rattle.std.proofs.Common.{◌≡◌, ◌*◌, ◌&&◌, Bool, true, false, ap, subst, refl, sym, ◌∙◌}
 use Rattle.std.proofs.lemmas.Bool.{eq-eqb}
@@ -9,7 +9,7 @@ use Rattle.bar_window.specs.contracts.window.WindowPartialEq.TheImpl as window
 use Rattle.bar_window.specs.declared.window.Window.{Window}
 use Rattle.bar_window.specs.Places.{set_places, update_at, words_in}
 use Rattle.bar_window.specs.Updates.{same_updates}
-use Rattle.bar_window.specs.Window.{members, IsAligned}
+use Rattle.bar_window.specs.Code.Window.{members, IsAligned}
 use Rattle.bar_window.proofs.Sets.{same_tests, same_updates-is, same_updates_refl}
 use Rattle.bar_window.proofs.Spelling.{same_members}
 
@@ -28,7 +28,7 @@ wide-eq a b e = subst (λ b. beq a b ≡ true) e (self a)
     self true = refl
     self false = refl
 
--- what `==` says of two windows
+-- `==` on two windows of the same rounds compares their members
 pub windows-eq : (w v : Window) → IsAligned w v → (window.ghosts).eq w v ≡ same_updates (members w) (members v)
 windows-eq w v al =
     same-rounds _ _ _ _ (eq-eqb w.base v.base al.base) (eq-eqb w.used v.used al.used) (wide-eq w.wide v.wide al.wide)

@@ -1,4 +1,4 @@
--- Kinds, sides and exchanges: what is tested to be the same is the same.
+-- The equality tests of kinds, sides and exchanges are exact.
 use Rattle.std.proofs.Common.{◌≡◌, true, refl, subst}
 use Rattle.std.specs.Cmp.{both_ways}
 use Rattle.std.proofs.lemmas.Bool.{and_from, and_parts, eqb-true}

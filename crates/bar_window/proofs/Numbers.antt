@@ -43,7 +43,7 @@ one_or_none zero lt = refl
 one_or_none (suc zero) lt = refl
 one_or_none (suc (suc b)) lt = absurd (omega (arith, lt))
 
--- a number has the bits that it has
+-- a number is determined by its bits
 pub number_is : (test : ℕ → Bool) (x n : ℕ) → x < 2 ^ n → ((i : ℕ) → i < n → test i ≡ eqb (bit_at x i) 1) → number_of_bits test n ≡ x
 number_is test x n fits bits = same_from_bits_below n (number_of_bits test n) x (number_below test n) fits (λ i lt.
     number_bit test n i lt ∙ ap (λ b. cond b 1 0) (bits i lt) ∙ one_or_none (bit_at x i) (bit_at-lt x i))
@@ -57,6 +57,6 @@ same_flags false false e = refl
 same_flags true false e = absurd (omega (arith, e))
 same_flags false true e = absurd (omega (arith, e))
 
--- two tests that make one number agree
+-- If two tests give the same number, they agree on its bits.
 pub number_tells : (p q : ℕ → Bool) (n : ℕ) → number_of_bits p n ≡ number_of_bits q n → (i : ℕ) → i < n → p i ≡ q i
 number_tells p q n e i lt = same_flags (p i) (q i) (sym (number_bit p n i lt) ∙ ap (λ a. bit_at a i) e ∙ number_bit q n i lt)

@@ -1,4 +1,4 @@
--- The updates of a run of rounds, by their places.
+-- The updates of consecutive rounds, by their places.
 use Rattle.std.proofs.Common.{◌≡◌, ℕ, zero, suc, ◌+◌, ◌-◌, ◌*◌, ◌/◌, ◌%◌, ◌<◌, ◌≤◌, Bool, true, false, cond, List, [], ◌∷◌, ◌++◌, map, refl, sym, ap, ◌∙◌, inl, inr, ◌⊎◌, arith}
 use Rattle.std.specs.List.{filter, flat_map, list_all, range_with_len}
 use Rattle.std.proofs.Math.Nat.{suc-mul, mul_comm}
@@ -42,7 +42,7 @@ all_later base m a p b (suc n) some lt =
       | false ↦ rest
     ]
 
--- the updates at increasing places rise
+-- the updates at increasing places are in increasing order
 pub rising_places : (base m : ℕ) (p : ℕ → Bool) (a n : ℕ) → 0 < m → is_rising (map (update_at base m) (filter p (range_with_len a n))) ≡ true
 rising_places base m p a zero some = refl
 rising_places base m p a (suc n) some =

@@ -1,4 +1,4 @@
--- Sets of updates: rising lists, and what they have.
+-- Sets of updates as rising lists, and their elements.
 use Rattle.std.proofs.Common.{◌≡◌, suc, ◌<◌, Bool, true, false, cond, not, ◌&&◌, ◌||◌, eqb, ltb, List, [], ◌∷◌, length, refl, sym, ap, subst, ◌∙◌, inl, inr, ◌⊎◌, arith}
 use Rattle.std.specs.List.{filter, list_all, Contains}
 use Rattle.std.specs.Cmp.{IsEquivalence}
@@ -71,7 +71,7 @@ before_each u v (w ∷ us) a h =
       | inr later ↦ before_each u v us p.1 later
     ]
 
--- ---- a set is told by what it has
+-- ---- a set is determined by its elements
 
 pub same_tests : (a b : Bool) → (a ≡ true → b ≡ true) → (b ≡ true → a ≡ true) → a ≡ b
 same_tests true b h g = sym (h refl)
@@ -103,7 +103,7 @@ tail_has u v w us vs e off off_v h = elim (cases_Bool (same_update w u)) [
       sym (ap (λ b. b || has_update us w) other) ∙ h ∙ ap (λ b. b || has_update vs w) other_v
 ]
 
--- two sets that have the same updates are one list
+-- two sets that have the same updates are equal as lists
 pub same_sets : (us vs : List UpdateId) → is_rising us ≡ true → is_rising vs ≡ true → ((u : UpdateId) → has_update us u ≡ has_update vs u) → us ≡ vs
 same_sets [] [] a b h = refl
 same_sets [] (v ∷ vs) a b h = absurd (false≢true (h v ∙ or_left (same_update v v) (has_update vs v) (same_self v)))
@@ -146,7 +146,7 @@ all_filter q p (u ∷ us) a =
     let rest : list_all q (filter p us) ≡ true = all_filter q p us h.1 in
     elim (p u) as (λ b. list_all q (cond b (u ∷ filter p us) (filter p us)) ≡ true) [ true ↦ rw (h.0, rest) refl | false ↦ rest ]
 
--- what is kept of a rising list rises
+-- a filter of a rising list is rising
 pub rising_filter : (p : UpdateId → Bool) (us : List UpdateId) → is_rising us ≡ true → is_rising (filter p us) ≡ true
 rising_filter p [] a = refl
 rising_filter p (u ∷ us) a =
@@ -159,7 +159,7 @@ and_same true b h = refl
 and_same false true h = absurd (false≢true (h refl))
 and_same false false h = refl
 
--- a set is what it has of a larger set
+-- a set that is part of a larger one is the filter of the larger one by membership
 pub set_is_filter : (us ws : List UpdateId) → is_rising us ≡ true → is_rising ws ≡ true → ((u : UpdateId) → has_update us u ≡ true → has_update ws u ≡ true) → us ≡ filter (has_update us) ws
 set_is_filter us ws a b h = same_sets us (filter (has_update us) ws) a (rising_filter (has_update us) ws b) (λ u. and_same (has_update ws u) (has_update us u) (h u) ∙ sym (has_filter (has_update us) ws u))
 
@@ -169,7 +169,7 @@ none_fail : (p : UpdateId → Bool) (us : List UpdateId) → list_all p us ≡ e
 none_fail p [] = refl
 none_fail p (u ∷ us) = elim (p u) as (λ b. (b && list_all p us) ≡ eqb (length (cond (not b) (u ∷ filter (λ v. not (p v)) us) (filter (λ v. not (p v)) us))) 0) [ true ↦ none_fail p us | false ↦ sym (ne_eqb (suc (length (filter (λ v. not (p v)) us))) 0 (λ e. omega (arith, e))) ]
 
--- one set is part of another exactly where nothing is left without the other
+-- a set is part of another if and only if it has nothing that the other lacks
 pub inside_none : (us vs : List UpdateId) → is_inside us vs ≡ eqb (length (minus us vs)) 0
 inside_none us vs = none_fail (has_update vs) us
 

@@ -1,4 +1,4 @@
--- Words are told by their bytes.
+-- Words are determined by their bytes.
 use Rattle.std.proofs.Common.{◌≡◌, ℕ, ◌+◌, ◌*◌, ◌^◌, ◌<◌, ◌≤◌, List, [], ◌∷◌, ◌++◌, length, take, drop, refl, sym, ap, ◌∙◌, append_assoc, length-append, arith}
 use Rattle.std.specs.Prelude.{slice_index}
 use Rattle.std.specs.List.{AllByRecursion}
@@ -37,7 +37,7 @@ buffer_begins ws bytes n k len long done le =
     let all : bytes ≡ words_bytes ws = sym (take_all (8 * n) bytes (omega (arith, long))) ∙ done ∙ ap words_bytes (take_all n ws (omega (arith, len))) in
     ap (take (8 * k)) all ∙ words_bytes_take ws k (omega (arith, len, le))
 
--- one word more is written into a buffer
+-- a buffer after one more word is written into it
 pub buffer_more : (ws bytes word : List ℕ) (j k : ℕ) → j < length ws → 8 * j + 8 ≤ length bytes → word ≡ u64_bytes (slice_index ws j) → take (8 * j) bytes ≡ words_bytes (take j ws) → take (8 * (j + 1)) (put_mid (8 * j) k bytes word) ≡ words_bytes (take (j + 1) ws)
 buffer_more ws bytes word j k lt room is done =
     let eight : length word ≡ 8 = ap length is ∙ length_u64 (slice_index ws j) in
@@ -47,7 +47,7 @@ same_u64 : (m n : ℕ) → m < 2 ^ 64 → n < 2 ^ 64 → u64_bytes m ≡ u64_byt
 unfolding u64_bytes
 same_u64 m n p q e = sym (from_be_bytes-to_be_bytes_8 m p) ∙ ap (from_be_bytes w64) e ∙ from_be_bytes-to_be_bytes_8 n q
 
--- Two texts with beginnings of one length are equal only where the beginnings and the rests are.
+-- Two lists with prefixes of one length are equal only if the prefixes are equal and the rests are.
 pub record IsSplitAlike (p q a b : List ℕ) : Type 0 where
   pub front : p ≡ q
   pub rest : a ≡ b
@@ -62,7 +62,7 @@ split_alike (x ∷ p) (y ∷ q) a b len e =
     let same = split_alike p q a b (omega (arith, len)) tails in
     record { front = λ i. heads i ∷ same.front i; rest = same.rest }
 
--- equally many words of 64 bits, by the bytes that they begin
+-- equally many words of 64 bits are determined by their bytes, whatever follows
 pub words_told : (xs ys x y : List ℕ) → length xs ≡ length ys → AllByRecursion (λ w. w < 2 ^ 64) xs → AllByRecursion (λ w. w < 2 ^ 64) ys → words_bytes xs ++ x ≡ words_bytes ys ++ y → (xs ≡ ys) × (x ≡ y)
 unfolding words_bytes
 words_told [] [] x y len p q e = (refl, e)

@@ -1,4 +1,4 @@
--- Worked sets: of the window of round 6, where updates live for four rounds.
+-- Worked sets of the window of round 6, if updates live for four rounds.
 use Rattle.std.proofs.Common.{◌≡◌, List, [], ◌∷◌, refl}
 use Rattle.bar_window.specs.declared.update.UpdateId.{UpdateId}
 use Rattle.bar_window.specs.Updates.{minus, both}

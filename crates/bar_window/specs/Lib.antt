@@ -3,5 +3,5 @@ pub mod Updates
 pub mod Exchange
 pub mod Terms
 pub mod Places
-pub mod Window
+pub mod Code
 pub mod WindowBytes

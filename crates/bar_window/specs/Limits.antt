@@ -5,7 +5,7 @@ use Rattle.std.specs.Prelude.{ℕ, ◌*◌}
 abbrev pub most_life : ℕ
 most_life = 16
 
--- the most items of a briefcase, updates and pieces of junk; so also the highest cap, and the most junk of terms
+-- the most items of a briefcase, updates and pieces of junk together; also the highest cap, and the most junk items of terms
 abbrev pub most_items : ℕ
 most_items = 16
 
@@ -17,6 +17,6 @@ block_size = 1024
 abbrev pub junk_size : ℕ
 junk_size = 1280
 
--- the most bytes of a briefcase: those of junk alone
+-- the most bytes of a briefcase: those of one full of junk
 abbrev pub largest_cipher : ℕ
 largest_cipher = most_items * junk_size

@@ -1,7 +1,7 @@
 ghost use Rattle.std.specs.Prelude.{◌≡◌, ◌<◌, MatchOption};
 ghost use Rattle.bar_window.specs.Exchange.{kind_code, role_code, other_role, party_on, exchange_bytes};
 
-/// The two kinds of exchange: balanced, of equally many updates, and push, of young updates for old ones or junk.
+/// The two kinds of exchange. A balanced one trades equally many updates; a push trades young updates for old ones or junk.
 #[derive(Clone, Copy, Debug, PartialEq, Eq, PartialOrd, Ord, Hash)]
 pub enum XKind {
     Balanced,
@@ -19,7 +19,7 @@ impl XKind {
         }
     }
 
-    /// The kind of a number, or None where no kind has it.
+    /// The kind with this number, or None if there is none.
     pub fn at(code: u8) -> Option<XKind>
         ensures { MatchOption result (1 < code) (λ kind. code ≡ kind_code kind) }
     {
@@ -49,7 +49,7 @@ impl Role {
         }
     }
 
-    /// The role of a number, or None where no role has it.
+    /// The role with this number, or None if there is none.
     pub fn at(code: u8) -> Option<Role>
         ensures { MatchOption result (1 < code) (λ role. code ≡ role_code role) }
     {

@@ -1,4 +1,4 @@
-//! Updates, windows, which are sets of updates, and the exchanges and terms that speak of them.
+//! Updates, windows (which are sets of updates), and the exchanges and terms that refer to them.
 #![tactic(auto)]
 
 mod blocks;

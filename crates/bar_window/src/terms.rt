@@ -9,8 +9,8 @@ pub enum Terms {
         ha: Window,
         hb: Window,
     },
-    /// The young updates that the initiator offers and the aged ones that it asks for, what the responder wants and gives of them,
-    /// and the number of junk items that it adds.
+    /// The young updates that the initiator offers and the aged ones that it asks for, which of them the responder wants and gives, and the
+    /// number of junk items that the responder adds.
     Push {
         young: Window,
         aged: Window,

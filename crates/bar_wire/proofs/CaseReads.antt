@@ -15,8 +15,8 @@ use Rattle.bar_wire.specs.declared.kind.Kind.TheVariants as kinds
 use Rattle.bar_wire.specs.Datagram.{Case}
 use Rattle.bar_wire.specs.Grammar.{term_pieces}
 use Rattle.bar_wire.specs.Places.{terms_len, fields_len}
-use Rattle.bar_wire.specs.Reading.{HasBytes}
-use Rattle.bar_wire.specs.Terms.{AreTermsAt}
+use Rattle.bar_wire.specs.Code.Reading.{HasBytes}
+use Rattle.bar_wire.specs.Code.Terms.{AreTermsAt}
 use Rattle.bar_wire.proofs.FieldLengths.{after_round}
 
 -- the first five fields, and what follows them

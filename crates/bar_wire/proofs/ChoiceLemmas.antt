@@ -1,4 +1,4 @@
--- The round of the seed that a datagram shows.
+-- The round of the seed in a datagram.
 use Rattle.std.proofs.Common.{◌≡◌, Some, ap, arith}
 use Rattle.std.proofs.lemmas.Option.{same_Some}
 use Rattle.bar_wire.specs.Bodies.{Choice, choice_in, choice_round}

@@ -7,7 +7,7 @@ use Rattle.bar_window.specs.declared.exchange.Role.TheVariants.{Initiator, Respo
 use Rattle.bar_window.specs.Exchange.{kind_code, role_code}
 use Rattle.bar_wire.specs.declared.shape.Shape.{Shape}
 use Rattle.bar_wire.specs.Places.{kind_from, role_from, terms_len, window_len}
-use Rattle.bar_wire.specs.Sides.{NoSideAt}
+use Rattle.bar_wire.specs.Code.Sides.{NoSideAt}
 
 pub terms_len_push : (s : Shape) (code : ℕ) → 0 < code → terms_len s code ≡ 4 * window_len s + 1
 terms_len_push s zero lt = absurd (omega (arith, lt))

@@ -40,21 +40,21 @@ pub lengths_fit : (ds : List (List ℕ)) → AllByRecursion IsEntryInRange ds �
 lengths_fit [] all = tt
 lengths_fit (d ∷ ds) all = (omega (arith, all.0.1), lengths_fit ds all.1)
 
--- bytes have the length that their counts give
+-- the bytes of an EVIDENCE have the length that their counts give
 pub evidence_whole : (bytes : List ℕ) (ds : List (List ℕ)) → IsEvidence bytes ds → length bytes ≡ evidence_len bytes
 evidence_whole bytes ds of =
     let flat = flat_map entry ds in
     let len : evidence_len bytes ≡ 1 + entries_len (length ds) (flat ++ []) = ap evidence_len of.is in
     omega (arith, len, ap length of.is, entries_back ds [] (lengths_fit ds of.range.2), length-append flat [])
 
--- they are of one list of datagrams
+-- the bytes encode at most one list of datagrams
 pub evidence_once : (bytes : List ℕ) (ds es : List (List ℕ)) → IsEvidence bytes ds → IsEvidence bytes es → ds ≡ es
 evidence_once bytes ds es one two =
     let same : evidence_bytes ds ++ [] ≡ evidence_bytes es ++ [] = ap (λ (x : List ℕ). x ++ []) (sym one.is ∙ two.is) in
     let count = peel_u8 (length ds) (length es) (flat_map entry ds ∷ []) (flat_map entry es ∷ []) [] [] same in
     (peel_entries ds es [] [] count.0 (lengths_fit ds one.range.2) (lengths_fit es two.range.2) count.1).0
 
--- they are of none where the datagrams that stand there are out of range
+-- If the datagrams in the bytes are out of range, the bytes encode no list of datagrams.
 pub no_evidence : (bytes rest : List ℕ) (count : ℕ) → bytes ≡ count ∷ rest → (AreDatagramsInRange (entries count rest) → ⊥) → (ds : List (List ℕ)) → IsEvidence bytes ds → ⊥
 no_evidence bytes rest count is out ds of =
     let flat = flat_map entry ds in
@@ -64,7 +64,7 @@ no_evidence bytes rest count is out ds of =
     let back : entries count rest ≡ ds = (λ i. entries (counts i) ((rests ∙ append-nil flat) i)) ∙ entries_read ds (lengths_fit ds of.range.2) in
     out (subst AreDatagramsInRange (sym back) of.range)
 
--- what a reader found or refused, against the datagrams that the bytes are of
+-- If the bytes encode a list of datagrams, the reader's result is that list.
 pub only_evidence : (bytes : List ℕ) (r : Result EvidenceView WireFault) (ds : List (List ℕ)) → MatchResult r (λ v. IsEvidence bytes (datagrams_of v)) (IsEvidenceFault bytes) → IsEvidence bytes ds → IsOkAnd r (λ v. datagrams_of v ≡ ds)
 only_evidence bytes (Ok v) ds read of = evidence_once bytes (datagrams_of v) ds read of
 only_evidence bytes (Err faults.BadLength) ds read of = absurd (read (evidence_whole bytes ds of))

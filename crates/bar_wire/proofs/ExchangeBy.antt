@@ -1,4 +1,4 @@
--- The exchange of a message by the side that its sender has.
+-- The exchange of a message, by the side of its sender.
 use Rattle.std.proofs.Common.{◌≡◌, ℕ, refl}
 use Rattle.bar_window.specs.declared.exchange.XKind.{XKind}
 use Rattle.bar_window.specs.declared.exchange.Role.{Role}

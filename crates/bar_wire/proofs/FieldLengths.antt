@@ -20,7 +20,7 @@ use Rattle.bar_wire.specs.Places.{widths, fields_len, entries_len, terms_len, wi
 use Rattle.bar_wire.proofs.WindowLaws.{length_set}
 use Rattle.bar_wire.proofs.Steps.{len_step}
 
--- a count that stands among the fields is that of all bytes after the header
+-- a count among the fields is the same in the fields alone and in all bytes after the header
 pub front_len : (s : Shape) (kind : Kind) (fields sig : List ℕ) → length sig ≡ signature_len s kind → (length fields ≡ fields_len s kind fields → length fields ≡ fields_len s kind (fields ++ sig)) × (length fields ≡ fields_len s kind (fields ++ sig) → length fields ≡ fields_len s kind fields)
 front_len s kinds.Manifest fields sig len = elim (cases_lt 4 (length fields)) [
   | inl lt ↦ let e : slice_index (fields ++ sig) 4 ≡ slice_index fields 4 = get_or_append_left fields sig 0 4 lt in (λ h. omega (arith, e, h), λ h. omega (arith, e, h))
@@ -81,7 +81,7 @@ length_terms s r k (forms.Push a b u v z) form =
       length-append (set_bytes s r v) (z ∷ []),
     )
 
--- what stands at a place after the round
+-- the byte at a place after the round
 pub after_round : (r : ℕ) (rest : List ℕ) (n : ℕ) → slice_index (u32_bytes r ++ rest) (4 + n) ≡ slice_index rest n
 after_round r rest n = ap (λ m. slice_index (u32_bytes r ++ rest) (m + n)) (sym (length_u32 r)) ∙ get_or-append-add (u32_bytes r) rest n 0
 

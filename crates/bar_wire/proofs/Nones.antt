@@ -1,4 +1,4 @@
--- Bytes that spell no fields of a kind.
+-- Bytes that encode no fields of a kind.
 use Rattle.std.proofs.Common.{◌≡◌, ℕ, ◌<◌, ◌^◌, List, [], ◌∷◌, ◌++◌, length, sym, ap, subst, ◌∙◌}
 use Rattle.std.specs.List.{concat}
 use Rattle.bar_bytes.specs.Bytes.{u32_bytes}
@@ -10,10 +10,10 @@ use Rattle.bar_wire.specs.declared.shape.Shape.{Shape}
 use Rattle.bar_wire.specs.declared.kind.Kind.TheVariants as kinds
 use Rattle.bar_wire.specs.Datagram.{Response, Divulge, Query, Reply, Case, KeyReq, Key}
 use Rattle.bar_wire.specs.Grammar.{set_bytes, term_pieces, IsWindowSet, IsRound, HasTermForm}
-use Rattle.bar_wire.specs.Reading.{SpellsNone}
-use Rattle.bar_wire.specs.Sides.{NoSideAt}
-use Rattle.bar_wire.specs.Windows.{NoWindowAt, NoWindowsAt}
-use Rattle.bar_wire.specs.Terms.{NoTermsAt}
+use Rattle.bar_wire.specs.Code.Reading.{SpellsNone}
+use Rattle.bar_wire.specs.Code.Sides.{NoSideAt}
+use Rattle.bar_wire.specs.Code.Windows.{NoWindowAt, NoWindowsAt}
+use Rattle.bar_wire.specs.Code.Terms.{NoTermsAt}
 use Rattle.bar_wire.proofs.CaseReads.{CaseStart}
 use Rattle.bar_wire.proofs.Peel.{peel, same_u32}
 use Rattle.bar_wire.proofs.Codes.{same_kind_code}

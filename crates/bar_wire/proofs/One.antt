@@ -1,4 +1,4 @@
--- The fields of a kind have one spelling, no bytes spell two, and no spelling begins another.
+-- The encoding of the fields of a kind is unique, injective and prefix-free.
 use Rattle.std.proofs.Common.{◌≡◌, ℕ, List, [], ◌∷◌, ◌++◌, length, sym, ap, subst, ◌∙◌, append_assoc, arith}
 use Rattle.std.specs.List.{concat, flat_map}
 use Rattle.bar_bytes.specs.Bytes.{u8_bytes, u16_bytes}
@@ -10,7 +10,7 @@ use Rattle.bar_window.specs.Terms as forms
 use Rattle.bar_wire.specs.declared.shape.Shape.{Shape}
 use Rattle.bar_wire.specs.Datagram.{Body, Briefcase, KeyGiven, Manifest, Block, Request, Response, Divulge, Query, Reply, Case, KeyReq, Key, Evidence, Evict, kind_of}
 use Rattle.bar_wire.specs.Grammar.{set_bytes, pieces, term_pieces, entry, HasForm, HasTermForm, InRange}
-use Rattle.bar_wire.specs.Reading.{SpellsNone}
+use Rattle.bar_wire.specs.Code.Reading.{SpellsNone}
 use Rattle.bar_wire.proofs.Peel.{peel_piece, peel_u32, peel_u8, peel_set, peel_parts, peel_parties, peel_entries}
 use Rattle.bar_wire.proofs.Codes.{same_kind_code, same_role_code}
 
@@ -132,7 +132,7 @@ one_reading s (Evict r ps) (Evict r' ps') x y k f g e =
     record { body = λ i. Evict (a.0 i) (c.0 i); rest = c.1 }
 one_reading s d e x y k f g h = absurd cc
 
--- where the fields that the bytes spell are out of range, the bytes spell none of the kind
+-- If the fields that the bytes encode are out of range, the bytes encode none of the kind.
 pub none_in_range : (s : Shape) (d : Body) (bytes : List ℕ) → HasForm s d → bytes ≡ concat (pieces s d) → (InRange s d → ⊥) → SpellsNone s (kind_of d) bytes
 none_in_range s d bytes form is out e kind spelled =
     let one = one_reading s e d [] [] kind spelled.form form (ap (λ (b : List ℕ). b ++ []) (sym spelled.is ∙ is)) in

@@ -1,4 +1,4 @@
--- Two texts made of pieces of the same lengths are equal only piece by piece.
+-- If two concatenations of pieces of the same lengths are equal, they are equal piece by piece.
 use Rattle.std.proofs.Common.{◌≡◌, ℕ, ◌<◌, ◌^◌, List, [], ◌∷◌, ◌++◌, length, refl, sym, ap, subst, ◌∙◌, append_assoc, arith}
 use Rattle.std.specs.List.{concat, flat_map, AllByRecursion}
 use Rattle.std.specs.Int.{w16, w32, from_be_bytes}
@@ -24,7 +24,7 @@ peel (x ∷ p) (y ∷ q) a b len e =
     let same = peel p q a b (omega (arith, len)) tails in
     record { front = λ i. heads i ∷ same.front i; rest = same.rest }
 
--- the first pieces are equal, and what follows them
+-- the first pieces are equal, and so is what follows them
 pub peel_piece : (p q : List ℕ) (ps qs : List (List ℕ)) (x y : List ℕ) → length p ≡ length q → concat (p ∷ ps) ++ x ≡ concat (q ∷ qs) ++ y → Peeled p q (concat ps ++ x) (concat qs ++ y)
 peel_piece p q ps qs x y len e = peel p q (concat ps ++ x) (concat qs ++ y) len (sym (append_assoc p (concat ps) x) ∙ e ∙ append_assoc q (concat qs) y)
 
@@ -54,7 +54,7 @@ peel_u16 m n ps qs x y p q e =
     let r = peel_piece (u16_bytes m) (u16_bytes n) ps qs x y (length_u16 m ∙ sym (length_u16 n)) e in
     (same_u16 m n p q r.front, r.rest)
 
--- ---- lists of items, each of which is known by its bytes
+-- ---- lists of items, each of which is determined by its bytes
 
 pub peel_flat : {X : Type 0} (f : X → List ℕ) (P : X → Type 0) (one : (a b : X) (x y : List ℕ) → P a → P b → f a ++ x ≡ f b ++ y → (a ≡ b) × (x ≡ y))
     → (xs ys : List X) (x y : List ℕ) → length xs ≡ length ys → AllByRecursion P xs → AllByRecursion P ys → flat_map f xs ++ x ≡ flat_map f ys ++ y → (xs ≡ ys) × (x ≡ y)

@@ -30,7 +30,7 @@ u32_back : (n : ℕ) → n < 2 ^ 32 → from_be_bytes w32 (u32_bytes n) ≡ n
 unfolding u32_bytes
 u32_back n lt = from_be_bytes-to_be_bytes_4 n lt
 
--- parts are cut again from what they make together
+-- cutting the concatenation of parts gives the parts
 pub cut_back : (ps : List (List ℕ)) (x : List ℕ) → cut (map length ps) (concat ps ++ x) ≡ ps
 cut_back [] x = refl
 cut_back (p ∷ ps) x =
@@ -55,7 +55,7 @@ pairs_back : (ps : List ℕ) → AllByRecursion (λ p. p < 2 ^ 16) ps → pairs 
 pairs_back [] fit = refl
 pairs_back (p ∷ ps) fit = pairs_step p (u16_bytes p ++ flat_map u16_bytes ps) (flat_map u16_bytes ps) refl fit.0 ∙ ap (λ (x : List ℕ). p ∷ x) (pairs_back ps fit.1)
 
--- a set, where the round is read too
+-- a set, if the round is read too
 set_at_back : (s : Shape) (n r : ℕ) (us : List UpdateId) → n ≡ r → IsWindowSet s r us → set_at s n (set_bytes s r us) ≡ us
 set_at_back s n r us same set = ap (λ m. set_at s m (set_bytes s r us)) same ∙ set_back s r us set
 
@@ -86,7 +86,7 @@ case_back s n c same form = λ i. Case (record {
   cipher = c.cipher;
 })
 
--- the fields from their parts, where the round is read already
+-- the fields from their parts, if the round is read already
 round_back : (s : Shape) (n : ℕ) (b : Body) → HasForm s b → n ≡ from_be_bytes w32 (part (pieces s b) 0) → round_body s (kind_of b) n (pieces s b) ≡ b
 round_back s n (Manifest r ds) form is = λ i. Manifest ((is ∙ u32_back r form.0) i) (chunks_back 32 ds form.1 i)
 round_back s n (Block u block) form is = λ i. Block (record { round = (is ∙ u32_back u.round form.0) i; index = u.index }) block
@@ -101,7 +101,7 @@ round_back s n (Key k) form is = λ i. Key (record { round = (is ∙ u32_back k.
 round_back s n (Evidence ds) form is = ap Evidence (entries_back ds form)
 round_back s n (Evict r ps) form is = λ i. Evict ((is ∙ u32_back r form.0) i) (pairs_back ps form.1 i)
 
--- a body stands at the places of its kind in its bytes, whatever follows them
+-- a body is read at the places of its kind in its bytes, whatever follows them
 pub body_back : (s : Shape) (b : Body) (x : List ℕ) → HasForm s b → body_at s (kind_of b) (concat (pieces s b) ++ x) ≡ b
 body_back s b x form =
     let bytes = concat (pieces s b) ++ x in

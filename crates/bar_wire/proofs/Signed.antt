@@ -6,7 +6,7 @@ use Rattle.bar_wire.specs.Datagram.{Body, Manifest, Block, Request, Response, Di
 use Rattle.bar_wire.specs.Grammar.{IsPeer, MaySend}
 use Rattle.bar_wire.specs.declared.shape.Shape.{Shape}
 
--- those of which a peer is accused
+-- the kinds that peers sign are signed
 pub peer_kind_signed : (b : Body) → is_peer_kind b ≡ true → is_signed b ≡ true
 peer_kind_signed (Request r s c) e = refl
 peer_kind_signed (Response r hb) e = refl
@@ -21,7 +21,7 @@ peer_kind_signed (KeyReq r k role) e = absurd (false≢true e)
 peer_kind_signed (Evidence ds) e = absurd (false≢true e)
 peer_kind_signed (Evict r ps) e = absurd (false≢true e)
 
--- they come from peers
+-- their senders are peers
 pub peer_kind_sends : (s : Shape) (b : Body) (from to : ℕ) → is_peer_kind b ≡ true → MaySend s (kind_of b) from to → IsPeer s from
 peer_kind_sends s (Request r seed c) from to e may = may.0
 peer_kind_sends s (Response r hb) from to e may = may.0

@@ -1,15 +1,15 @@
--- Terms that the bytes begin with, or that they don't.
+-- Bytes that begin with terms, and bytes that don't.
 use Rattle.std.proofs.Common.{◌≡◌, ℕ, List, [], ◌∷◌, ◌++◌, length, refl, sym, ap, ◌∙◌, append_assoc, length-append, arith}
 use Rattle.std.proofs.lemmas.List.{append-nil}
 use Rattle.bar_window.specs.declared.window.Window.{Window}
 use Rattle.bar_window.specs.declared.exchange.XKind.TheVariants as exchanges
 use Rattle.bar_window.specs.declared.terms.Terms.TheVariants as raw
-use Rattle.bar_window.specs.Window.{members}
+use Rattle.bar_window.specs.Code.Window.{members}
 use Rattle.bar_window.specs.Terms as forms
 use Rattle.bar_wire.specs.declared.shape.Shape.{Shape}
 use Rattle.bar_wire.specs.Grammar.{set_bytes}
-use Rattle.bar_wire.specs.Windows.{AreWindowsAt, NoWindowsAt}
-use Rattle.bar_wire.specs.Terms.{AreTermsAt, NoTermsAt}
+use Rattle.bar_wire.specs.Code.Windows.{AreWindowsAt, NoWindowsAt}
+use Rattle.bar_wire.specs.Code.Terms.{AreTermsAt, NoTermsAt}
 use Rattle.bar_wire.proofs.Peel.{peel}
 use Rattle.bar_wire.proofs.WindowLaws.{set_told}
 use Rattle.bar_wire.proofs.Head.{three_joined}

@@ -1,4 +1,4 @@
--- The datagram that bytes spell.
+-- The datagram that bytes encode.
 use Rattle.std.proofs.Common.{◌≡◌, ℕ, ◌+◌, true, ◌&&◌, List, [], ◌∷◌, ◌++◌, length, take, drop, refl, sym, ap, subst, ◌∙◌, append_assoc, length-append, arith}
 use Rattle.std.specs.Prelude.{slice_index, slice_range, bytes_eq, Option, Some, None, Result, Ok, Err, MatchResult}
 use Rattle.std.specs.Bool.{then_some}
@@ -22,14 +22,14 @@ use Rattle.bar_wire.specs.Grammar.{pieces, start, spelling, SpellsDatagram}
 use Rattle.bar_wire.specs.Ranges.{datagram_decided, is_datagram}
 use Rattle.bar_wire.specs.Places.{fields_len, body_at, datagram_at, datagram_of}
 use Rattle.bar_wire.specs.Faults.{IsFirstFault}
-use Rattle.bar_wire.specs.Views.{IsView, datagram}
+use Rattle.bar_wire.specs.Code.Views.{IsView, datagram}
 use Rattle.bar_wire.proofs.ReadBack.{u16_back, body_back, len_back}
 use Rattle.bar_wire.proofs.Head.{three_joined}
 use Rattle.bar_wire.proofs.Whole.{cut_from, start_len, fault_spells_none}
 
--- ---- what the bytes spell stands at its places
+-- ---- the datagram that the bytes encode is at its places
 
--- the parts of the header of what the bytes spell
+-- the parts of the header of the datagram that the bytes encode
 record Parts (s : Shape) (d : Datagram) (bytes : List ℕ) : Type 0 where
   from_is : from_be_bytes w16 (slice_range bytes 12 14) ≡ d.message.from
   to_is : from_be_bytes w16 (slice_range bytes 14 16) ≡ d.message.to
@@ -97,7 +97,7 @@ none_from : {X : Type 0} (o : Option X) → ((x : X) → o ≡ Some x → ⊥) �
 none_from None never = refl
 none_from (Some x) never = absurd (never x refl)
 
--- what a reader found or refused is the datagram of the bytes
+-- the result of a reader is the datagram of the bytes
 pub read_told : (s : Shape) (bytes : List ℕ) (r : Result View WireFault) → MatchResult r (IsView s bytes) (IsFirstFault s bytes) → option_map (datagram s) (result_ok r) ≡ datagram_of s bytes
 read_told s bytes (Ok v) read = sym (is_told s (datagram s v) bytes read.spelled)
 read_told s bytes (Err e) read = sym (none_from (datagram_of s bytes) (λ d h. fault_spells_none s bytes e d read (only_told s d bytes h)))

@@ -14,16 +14,16 @@ use Rattle.bar_wire.specs.Datagram.{Datagram, Body, kind_of}
 use Rattle.bar_wire.specs.Grammar.{pieces, magic, start, message_bytes, spelling, signature_len, IsDatagram, SpellsDatagram, MaySend}
 use Rattle.bar_wire.specs.Places.{fields_len}
 use Rattle.bar_wire.specs.Faults.{HasHeader, datagram_len, IsFirstFault}
-use Rattle.bar_wire.specs.Reading.{SpellsBody, SpellsNone}
-use Rattle.bar_wire.specs.Headers.{IsCut}
-use Rattle.bar_wire.specs.Views.{IsView, datagram}
+use Rattle.bar_wire.specs.Code.Reading.{SpellsBody, SpellsNone}
+use Rattle.bar_wire.specs.Code.Headers.{IsCut}
+use Rattle.bar_wire.specs.Code.Views.{IsView, datagram}
 use Rattle.bar_wire.specs.declared.view.View.{View}
 use Rattle.bar_wire.proofs.Peel.{peel, peel_piece, peel_u8, peel_u16}
 use Rattle.bar_wire.proofs.One.{one_reading}
 use Rattle.bar_wire.proofs.FieldLengths.{front_len, pieces_len}
 use Rattle.bar_wire.proofs.Head.{kind_again, three_joined}
 
--- what stands after the magic, the version and the code
+-- the pieces after the magic, the version and the code
 abbrev start3 : Shape → ℕ → ℕ → List (List ℕ) → List (List ℕ)
 start3 s from to ps = s.id ∷ u16_bytes from ∷ u16_bytes to ∷ ps
 
@@ -56,7 +56,7 @@ peel_start s k l from from' to to' ps qs x y f f' t t' e =
     let h = peel_u16 to to' ps qs x y t t' g.1 in
     record { kind = same_kind k l c.0; from_is = g.0; to_is = h.0; rest = h.1 }
 
--- ---- one spelling, and none begins another
+-- ---- the encoding is unique and prefix-free
 
 pub one_datagram : (s : Shape) (d e : Datagram) (x y : List ℕ) → IsDatagram s d → IsDatagram s e → spelling s d ++ x ≡ spelling s e ++ y → (d ≡ e) × (x ≡ y)
 one_datagram s d e x y p q h =
@@ -68,7 +68,7 @@ one_datagram s d e x y p q h =
 
 -- ---- bytes that are cut into a header, fields and a signature
 
--- the parts of a datagram that bytes which are cut so spell
+-- the parts of the datagram that the bytes encode, if they are cut so
 pub record IsSpelledBy (s : Shape) (kind : Kind) (from to : ℕ) (fields : List ℕ) (d : Datagram) : Type 0 where
   pub kind_is : kind_of d.message.body ≡ kind
   pub from_is : d.message.from ≡ from
@@ -84,7 +84,7 @@ cut_spelled s bytes kind from to fields sig d cut spelled =
     let b = peel (concat (pieces s d.message.body)) fields d.signature sig (omega (arith, lens, total, length-append (concat (pieces s d.message.body)) d.signature, length-append fields sig)) a.rest in
     record { kind_is = a.kind; from_is = a.from_is; to_is = a.to_is; fields_are = sym b.front }
 
--- nothing is spelled where the fields of the kind spell none, or the parties may not send it
+-- If the fields encode none of the kind, or the parties may not send it, the bytes encode no datagram.
 pub cut_none : (s : Shape) (bytes : List ℕ) (kind : Kind) (from to : ℕ) (fields sig : List ℕ) → IsCut s bytes kind from to fields sig → SpellsNone s kind fields → (d : Datagram) → SpellsDatagram s d bytes → ⊥
 cut_none s bytes kind from to fields sig cut none d spelled =
     let a = cut_spelled s bytes kind from to fields sig d cut spelled in
@@ -131,7 +131,7 @@ cut_of s bytes kind from to rest n has f t is len = record {
   is = is ∙ ap (λ (x : List ℕ). concat (start s kind from to []) ++ x) (sym (take-append-drop n rest));
 }
 
--- ---- what is read
+-- ---- the datagram that is read
 
 pub start_then : (s : Shape) (kind : Kind) (from to : ℕ) (ps : List (List ℕ)) → concat (start s kind from to ps) ≡ concat (start s kind from to []) ++ concat ps
 start_then s kind from to ps = ap (λ (x : List ℕ). 0xba ∷ 0x47 ∷ s.version ∷ code_of kind ∷ x) (three_joined s.id (u16_bytes from) (u16_bytes to) (concat ps))
@@ -165,7 +165,7 @@ session_first s d =
     let after = u16_bytes d.message.from ++ (u16_bytes d.message.to ++ concat (pieces s d.message.body)) in
     ap (take 8) (append_assoc s.id after d.signature) ∙ take_at s.id (after ++ d.signature) 8 s.shaped.id_long
 
--- ---- what is spelled has no fault
+-- ---- the encoding of a datagram has no fault
 
 pub cut_from : (s : Shape) (bytes : List ℕ) (d : Datagram) → SpellsDatagram s d bytes → IsCut s bytes (kind_of d.message.body) d.message.from d.message.to (concat (pieces s d.message.body)) d.signature
 cut_from s bytes d spelled =
@@ -190,7 +190,7 @@ cut_from s bytes d spelled =
 pub whole_from : (s : Shape) (bytes : List ℕ) (d : Datagram) → SpellsDatagram s d bytes → length bytes ≡ datagram_len s (kind_of d.message.body) bytes
 whole_from s bytes d spelled = (cut_len s bytes (kind_of d.message.body) d.message.from d.message.to (concat (pieces s d.message.body)) d.signature (cut_from s bytes d spelled)).0 (pieces_len s d.message.body spelled.fits.form)
 
--- bytes with a fault spell no datagram
+-- bytes with a fault encode no datagram
 pub fault_spells_none : (s : Shape) (bytes : List ℕ) (e : WireFault) (d : Datagram) → IsFirstFault s bytes e → SpellsDatagram s d bytes → ⊥
 fault_spells_none s bytes Short d fault spelled = let cut = cut_from s bytes d spelled in omega (arith, fault, cut.has.ours.long)
 fault_spells_none s bytes BadMagic d fault spelled = fault.1 (cut_from s bytes d spelled).has.ours.magic_is
@@ -202,7 +202,7 @@ fault_spells_none s bytes BadLength d fault spelled =
     fault.2 (whole_from s bytes d spelled ∙ ap (λ (k : Kind). datagram_len s k bytes) same)
 fault_spells_none s bytes BadField d fault spelled = fault.1 d spelled
 
--- what a reader found or refused, against a datagram that the bytes spell
+-- If the bytes encode a datagram, the reader's result is that datagram.
 pub only_read : (s : Shape) (bytes : List ℕ) (r : Result View WireFault) (d : Datagram) → MatchResult r (IsView s bytes) (IsFirstFault s bytes) → SpellsDatagram s d bytes → IsOkAnd r (λ v. datagram s v ≡ d)
 only_read s bytes (Ok v) d read spelled = (one_datagram s (datagram s v) d [] [] read.spelled.fits spelled.fits (ap (λ (x : List ℕ). x ++ []) (sym read.spelled.is ∙ spelled.is))).0
 only_read s bytes (Err e) d read spelled = absurd (fault_spells_none s bytes e d read spelled)

@@ -1,4 +1,4 @@
--- In how many bytes a body is written.
+-- The length of the encoding of a body.
 use Rattle.std.proofs.Common.{◌≡◌, ℕ, zero, suc, ◌+◌, List, [], ◌∷◌, ◌++◌, length, take, drop, sym, ap, ◌∙◌, length-append, arith}
 use Rattle.std.specs.List.{concat, flat_map}
 use Rattle.std.proofs.lemmas.List.{length-take, length-drop}
@@ -8,7 +8,7 @@ use Rattle.bar_window.specs.declared.terms.Terms.{Terms as RawTerms}
 use Rattle.bar_window.specs.declared.terms.Terms.TheVariants as terms
 use Rattle.bar_window.specs.Exchange.{kind_code, role_code}
 use Rattle.bar_window.specs.Terms.{plain_terms}
-use Rattle.bar_window.specs.Window.{members}
+use Rattle.bar_window.specs.Code.Window.{members}
 use Rattle.bar_wire.specs.declared.shape.Shape.{Shape}
 use Rattle.bar_wire.specs.declared.view.Body.{Body as RawBody}
 use Rattle.bar_wire.specs.declared.view.Body.TheVariants as raw
@@ -16,15 +16,15 @@ use Rattle.bar_wire.specs.Datagram.{Message, kind_of}
 use Rattle.bar_wire.specs.Grammar.{set_bytes, term_pieces, pieces, entry, start, message_bytes}
 use Rattle.std.specs.Simd.{first_chunks}
 use Rattle.bar_wire.specs.Places.{entries, entries_len, pairs}
-use Rattle.bar_wire.specs.Views.{plain, IsBody}
-use Rattle.bar_wire.specs.Writing.{terms_written, body_written}
+use Rattle.bar_wire.specs.Code.Views.{plain, IsBody}
+use Rattle.bar_wire.specs.Code.Writing.{terms_written, body_written}
 use Rattle.bar_wire.proofs.Lists.{chunks_joined}
 use Rattle.bar_wire.proofs.Steps.{length_pairs}
 use Rattle.bar_wire.proofs.FieldLengths.{length_parties}
 use Rattle.bar_wire.proofs.WindowLaws.{length_set}
 use Rattle.bar_wire.proofs.Whole.{start_len, start_then}
 
--- the datagrams of a list have its length together with their own lengths
+-- the entries of a list, joined again, have the length of its bytes
 length_joined : (count : ℕ) (bytes : List ℕ) → length bytes ≡ entries_len count bytes → length (flat_map entry (entries count bytes)) ≡ length bytes
 length_joined zero bytes len = sym len
 length_joined (suc n) bytes len =

@@ -1,4 +1,4 @@
--- What a body holds, where it is of the kind that holds it.
+-- The fields of a body, if it is of the kind that has them.
 use Rattle.std.specs.Prelude.{ℕ, ◌+◌, ◌==◌, Bool, true, false, List, [], Option, Some, None}
 use Rattle.bar_window.specs.declared.update.UpdateId.{UpdateId}
 use Rattle.bar_window.specs.declared.exchange.XKind.{XKind}
@@ -23,12 +23,12 @@ evictions_in _ = []
 
 -- ---- of a peer's message
 
--- the datagrams that stand in an EVIDENCE
+-- the datagrams in an EVIDENCE
 abbrev pub evidence_in : Body → List (List ℕ)
 evidence_in (Evidence datagrams) = datagrams
 evidence_in _ = []
 
--- a message of a peer that it signs
+-- whether a body is of a kind that peers sign
 abbrev pub is_peer_kind : Body → Bool
 is_peer_kind (Request r s c) = true
 is_peer_kind (Response r hb) = true
@@ -38,7 +38,7 @@ is_peer_kind (Case c) = true
 is_peer_kind (Key k) = true
 is_peer_kind _ = false
 
--- a choice of partner: for which kind of exchange and round, and by which seed
+-- a choice of partner: the kind of exchange, the round and the seed
 pub record Choice : Type 0 where
   pub kind : XKind
   pub round : ℕ
@@ -50,7 +50,7 @@ choice_in (Request round seed commitment) = Some (record { kind = Balanced; roun
 choice_in (Query round seed young aged) = Some (record { kind = Push; round = round; seed = seed })
 choice_in _ = None
 
--- the round of the seed that a REQUEST shows, and that a QUERY shows, else 0
+-- the round of the seed in a REQUEST, and of the one in a QUERY; 0 for any other body
 abbrev pub request_round : Body → ℕ
 request_round (Request round seed commitment) = round
 request_round _ = 0
@@ -59,7 +59,7 @@ abbrev pub query_round : Body → ℕ
 query_round (Query round seed young aged) = round
 query_round _ = 0
 
--- the round of the seed that either shows
+-- the round of the seed in either
 abbrev pub choice_round : Body → ℕ
 choice_round b = request_round b + query_round b
 
@@ -83,17 +83,17 @@ abbrev pub offer_in : Body → Option (List UpdateId × List UpdateId)
 offer_in (Query round seed young aged) = Some (young, aged)
 offer_in _ = None
 
--- what a REPLY wants and gives, and how many junk items it adds
+-- the young updates that a REPLY wants, the aged ones that it gives, and how many junk items it adds
 abbrev pub reply_in : Body → Option (List UpdateId × List UpdateId × ℕ)
 reply_in (Reply round want give junk) = Some (want, give, junk)
 reply_in _ = None
 
--- what a CASE says
+-- the fields of a CASE
 abbrev pub briefcase_in : Body → Option Briefcase
 briefcase_in (Case c) = Some c
 briefcase_in _ = None
 
--- what a KEY says
+-- the fields of a KEY
 abbrev pub key_in : Body → Option KeyGiven
 key_in (Key k) = Some k
 key_in _ = None

@@ -13,7 +13,7 @@ use Rattle.bar_wire.specs.declared.kind.Kind.{Kind}
 use Rattle.bar_wire.specs.declared.kind.Kind.TheVariants as kinds
 use Rattle.bar_wire.specs.Kinds.{code_of, is_signed_kind}
 
--- what a CASE says
+-- the fields of a CASE
 pub record Briefcase : Type 0 where
   pub round : ℕ
   pub kind : XKind
@@ -23,7 +23,7 @@ pub record Briefcase : Type 0 where
   pub terms : Terms
   pub cipher : List ℕ
 
--- what a KEY says
+-- the fields of a KEY
 pub record KeyGiven : Type 0 where
   pub round : ℕ
   pub kind : XKind
@@ -49,7 +49,7 @@ pub record Message : Type 0 where
   pub to : ℕ
   pub body : Body
 
--- a message with its signature, which is empty where the kind isn't signed
+-- a message with its signature, which is empty if the kind isn't signed
 pub record Datagram : Type 0 where
   pub message : Message
   pub signature : List ℕ
@@ -76,7 +76,7 @@ kind_number b = code_of (kind_of b)
 abbrev pub is_signed : Body → Bool
 is_signed b = is_signed_kind (kind_of b)
 
--- the round of a body, which an EVIDENCE has not
+-- the round of a body; an EVIDENCE has none
 abbrev pub round_of : Body → ℕ
 round_of (Manifest r ds) = r
 round_of (Block u b) = u.round
@@ -91,12 +91,12 @@ round_of (Key k) = k.round
 round_of (Evidence ds) = 0
 round_of (Evict r ps) = r
 
--- the exchange of the round and kind whose side this party took against that one
+-- the exchange of a round and kind in which `from` has this role and `to` the other
 abbrev pub exchange_by : ℕ → XKind → Role → ℕ → ℕ → Exchange
 exchange_by r k Initiator from to = record { round = r; kind = k; initiator = from; responder = to }
 exchange_by r k Responder from to = record { round = r; kind = k; initiator = to; responder = from }
 
--- the round, kind and side of the sender that a body speaks of, where it belongs to an exchange
+-- the round, kind of exchange and sender's side of a body, if it belongs to an exchange
 abbrev pub part_of : Body → Option (ℕ × XKind × Role)
 part_of (Request r s c) = Some (r, Balanced, Initiator)
 part_of (Response r hb) = Some (r, Balanced, Responder)
@@ -108,12 +108,12 @@ part_of (KeyReq r k role) = Some (r, k, role)
 part_of (Key k) = Some (k.round, k.kind, k.role)
 part_of _ = None
 
--- where a message stands: in which exchange, and on which side of it
+-- the place of a message: its exchange, and the side of its sender
 pub record Place : Type 0 where
   pub exchange : Exchange
   pub role : Role
 
--- the place of a message from this party to that one, of this round, kind and side
+-- the place of a message between these parties, of this round, kind and side
 abbrev pub place_by : ℕ → ℕ → ℕ × XKind × Role → Place
 place_by from to p = record { exchange = exchange_by p.0 p.1 p.2 from to; role = p.2 }
 
@@ -121,14 +121,14 @@ place_by from to p = record { exchange = exchange_by p.0 p.1 p.2 from to; role =
 abbrev pub place_of : Message → Option Place
 place_of m = option_map (place_by m.from m.to) (part_of m.body)
 
--- the exchange that a message is of
+-- the exchange that a message belongs to
 abbrev pub exchange_of : Message → Option Exchange
 exchange_of m = option_map (λ p. p.exchange) (place_of m)
 
 abbrev pub is_place : Exchange → Role → Place → Bool
 is_place x role place = same_exchange place.exchange x && same_role place.role role
 
--- whether a message is of this kind and exchange, and of this side
+-- whether a message is of this kind, this exchange and this side
 abbrev pub is_of : Kind → Exchange → Role → Message → Bool
 is_of kind x role m =
     (kind_number m.body == code_of kind) && option_map_or (is_place x role) (place_of m) false
@@ -145,7 +145,7 @@ named (Case c) from to = from ∷ to ∷ c.round ∷ kind_code c.kind ∷ role_c
 named (Key k) from to = from ∷ to ∷ k.round ∷ kind_code k.kind ∷ role_code k.role ∷ []
 named _ from to = []
 
--- What may not be said twice: the kind and, each as far as the kind has it in its name, the sender, receiver, round, exchange kind and
--- role.
+-- The identity of a message, which may not be used twice: the kind, and those of the sender, receiver, round, exchange kind and role that
+-- belong to the identity of this kind.
 abbrev pub identity_of : Message → List ℕ
 identity_of m = kind_number m.body ∷ named m.body m.from m.to

@@ -1,9 +1,9 @@
--- Decisions: tests with what they tell, for facts that are put together of others.
+-- Decisions: tests that are true if and only if a fact holds, for facts that are composed of others.
 use Rattle.std.specs.Prelude.{ℕ, ◌≡◌, ◌≢◌, ◌<◌, ◌≤◌, ◌==◌, ◌&&◌, ◌↔◌, Bool, true, not, List, [], ◌∷◌, IsTrue, nat_lt, nat_le, refl}
 use Rattle.std.specs.List.{AllByRecursion}
 use Rattle.std.proofs.lemmas.Bool.{ltb-true, lt-ltb, leb-true, le-leb, eqb-true, eq-eqb, eqb-false, ne_eqb, not-true, not_from_false, and_parts, and_from}
 
--- a test that tells the fact
+-- a test that is true if and only if the fact holds
 pub record Decision (P : Type 0) : Type 0 where
   pub test : Bool
   pub tells : IsTrue test ↔ P
@@ -30,7 +30,7 @@ different m n = record {
 abbrev pub always : Decision (Unit {0})
 always = record { test = true; tells = (λ h. tt, λ h. refl) }
 
--- of a fact that says the same
+-- of an equivalent fact
 abbrev pub likewise : {P Q : Type 0} → Decision P → (P → Q) → (Q → P) → Decision Q
 likewise p to from = record { test = p.test; tells = (λ h. to (p.tells.0 h), λ h. p.tells.1 (from h)) }
 
@@ -53,7 +53,7 @@ abbrev pub five : {P Q R S T : Type 0} → Decision P → Decision Q → Decisio
     → Decision (P × Q × R × S × T)
 five p q r s t = likewise (both (four p q r s) t) (λ h. (h.0.0, h.0.1, h.0.2, h.0.3, h.1)) (λ h. ((h.0, h.1, h.2, h.3), h.4))
 
--- of each element
+-- of a fact about each element
 abbrev pub each : {X : Type 0} {P : X → Type 0} → ((x : X) → Decision (P x)) → (xs : List X) → Decision (AllByRecursion P xs)
 each p [] = always
 each p (x ∷ xs) = both (p x) (each p xs)

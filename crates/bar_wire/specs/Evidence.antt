@@ -20,7 +20,7 @@ other (Some two) = two.now ∷ []
 abbrev pub datagrams_of : EvidenceView → List (List ℕ)
 datagrams_of v = v.one.now ∷ other v.two
 
--- The bytes are those of these one or two datagrams, each of a length that one may have.
+-- The bytes encode these one or two datagrams, each of a length in range.
 pub record IsEvidence (bytes : List ℕ) (datagrams : List (List ℕ)) : Type 0 where
   pub range : AreDatagramsInRange datagrams
   pub is : bytes ≡ evidence_bytes datagrams
@@ -29,13 +29,13 @@ pub record IsEvidence (bytes : List ℕ) (datagrams : List (List ℕ)) : Type 0 
 abbrev pub evidence_len : List ℕ → ℕ
 evidence_len bytes = 1 + entries_len (slice_index bytes 0) (drop 1 bytes)
 
--- this fault is the first
+-- this is the first fault
 abbrev pub IsEvidenceFault : List ℕ → WireFault → Type 0
 IsEvidenceFault bytes BadLength = length bytes ≢ evidence_len bytes
 IsEvidenceFault bytes BadField = (length bytes ≡ evidence_len bytes) × ((datagrams : List (List ℕ)) → IsEvidence bytes datagrams → ⊥)
 IsEvidenceFault bytes _ = ⊥
 
--- a datagram, and what follows it
+-- the first datagram, and what follows it
 pub record IsEntrySplit (bytes one rest : List ℕ) : Type 0 where
   pub first : (n : ℕ) → entries (suc n) bytes ≡ one ∷ entries n rest
   pub len : (n : ℕ) → entries_len (suc n) bytes ≡ 2 + length one + entries_len n rest

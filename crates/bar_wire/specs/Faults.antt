@@ -1,4 +1,4 @@
--- The first fault of bytes that spell no datagram.
+-- The first fault of bytes that encode no datagram.
 use Rattle.std.specs.Prelude.{◌≡◌, ◌≢◌, ℕ, ◌+◌, ◌<◌, ◌≤◌, List, length, take, drop, slice_index, Some, None}
 use Rattle.bar_wire.specs.Limits.{header_len}
 use Rattle.bar_wire.specs.declared.shape.Shape.{Shape}
@@ -26,7 +26,7 @@ pub record HasHeader (s : Shape) (kind : Kind) (bytes : List ℕ) : Type 0 where
 abbrev pub datagram_len : Shape → Kind → List ℕ → ℕ
 datagram_len s kind bytes = header_len + fields_len s kind (drop header_len bytes) + signature_len s kind
 
--- this fault is the first
+-- this is the first fault
 abbrev pub IsFirstFault : Shape → List ℕ → WireFault → Type 0
 IsFirstFault s bytes Short = length bytes < header_len
 IsFirstFault s bytes BadMagic = (header_len ≤ length bytes) × (take 2 bytes ≢ magic)

@@ -33,7 +33,7 @@ kind_at code =
     else if code == 12 then Some Evict
     else None
 
--- whether datagrams of this kind bear a signature
+-- whether datagrams of this kind have a signature
 abbrev pub is_signed_kind : Kind → Bool
 is_signed_kind Manifest = true
 is_signed_kind Block = false

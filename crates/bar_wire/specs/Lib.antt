@@ -7,13 +7,6 @@ pub mod Decision
 pub mod Ranges
 pub mod Places
 pub mod Faults
-pub mod Views
-pub mod Sides
+pub mod Code
 pub mod Evidence
 pub mod Inputs
-pub mod Words
-pub mod Windows
-pub mod Reading
-pub mod Terms
-pub mod Headers
-pub mod Writing

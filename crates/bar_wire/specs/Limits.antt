@@ -1,4 +1,4 @@
--- The limits of every datagram, and the numbers that a session says of its own.
+-- The limits of every datagram, and those of a session's own parameters.
 use Rattle.std.specs.Prelude.{◌≡◌, ℕ, ◌+◌, ◌*◌, ◌<◌, ◌≤◌, List, length}
 use Rattle.bar_window.specs.Limits.{most_life}
 
@@ -6,7 +6,7 @@ use Rattle.bar_window.specs.Limits.{most_life}
 abbrev pub largest_datagram : ℕ
 largest_datagram = 65507
 
--- how many bytes stand before the fields of a datagram
+-- how many bytes precede the fields of a datagram
 abbrev pub header_len : ℕ
 header_len = 16
 
@@ -14,7 +14,7 @@ header_len = 16
 abbrev pub everyone : ℕ
 everyone = 65535
 
--- the most bytes of content in a block, which stand behind their number in two bytes
+-- the most bytes of content in a block; the content follows its length of two bytes
 abbrev pub largest_content : ℕ
 largest_content = 1022
 
@@ -22,7 +22,7 @@ largest_content = 1022
 abbrev pub seats_a_round : ℕ
 seats_a_round = 2
 
--- how many exchanges a peer has in a round: of each of the two kinds its own and one for each seat
+-- how many exchanges a peer has in a round: for each of the two kinds, its own and one for each seat
 abbrev pub exchanges_a_round : ℕ
 exchanges_a_round = 2 * (1 + seats_a_round)
 
@@ -30,7 +30,7 @@ exchanges_a_round = 2 * (1 + seats_a_round)
 abbrev pub leaves_a_round : ℕ
 leaves_a_round = 3 * exchanges_a_round
 
--- An id has eight bytes, and an update lives for at least a round.
+-- An id has eight bytes, and an update lives for at least one round.
 pub record IsShape (id : List ℕ) (life : ℕ) : Type 0 where
   pub id_long : length id ≡ 8
   pub alive : 0 < life

@@ -1,4 +1,4 @@
--- Where the fields of a kind stand, by the counts among the bytes, and the datagram that bytes spell.
+-- The places of the fields of a kind, by the counts among the bytes, and the datagram that bytes encode.
 use Rattle.std.specs.Prelude.{ℕ, zero, suc, ◌+◌, ◌-◌, ◌*◌, ◌&&◌, ◌==◌, if◌then◌else◌, List, [], ◌∷◌, take, drop, slice_index, slice_range, map, filter, sum, Option, bytes_eq}
 use Rattle.std.specs.Bool.{then_some}
 use Rattle.std.specs.Option.{option_and_then}
@@ -26,7 +26,7 @@ use Rattle.bar_wire.specs.Ranges.{is_datagram}
 
 -- ---- widths
 
--- the length of so many datagrams, each after its own length
+-- the length of a number of datagrams, each after its own length
 abbrev pub entries_len : ℕ → List ℕ → ℕ
 entries_len zero bytes = 0
 entries_len (suc n) bytes = 2 + first_u16 bytes + entries_len n (drop (2 + first_u16 bytes) bytes)
@@ -39,7 +39,7 @@ abbrev pub terms_len : Shape → ℕ → ℕ
 terms_len s zero = 32 + 2 * window_len s
 terms_len s (suc code) = 4 * window_len s + 1
 
--- how many bytes each field of a kind has, by the counts that stand among the bytes after the header
+-- how many bytes each field of a kind has, by the counts among the bytes after the header
 abbrev pub widths : Shape → Kind → List ℕ → List ℕ
 widths s kinds.Manifest b = 4 ∷ 1 ∷ 32 * slice_index b 4 ∷ []
 widths s kinds.Block b = 4 ∷ 1 ∷ block_size ∷ []
@@ -65,7 +65,7 @@ abbrev pub cut : List ℕ → List ℕ → List (List ℕ)
 cut [] bytes = []
 cut (n ∷ ns) bytes = take n bytes ∷ cut ns (drop n bytes)
 
--- the datagrams of a list of so many lengths, each followed by as many bytes
+-- the datagrams of a list of lengths, each followed by that many bytes
 abbrev pub entries : ℕ → List ℕ → List (List ℕ)
 entries zero bytes = []
 entries (suc n) bytes = take (first_u16 bytes) (drop 2 bytes) ∷ entries n (drop (2 + first_u16 bytes) bytes)
@@ -131,13 +131,13 @@ round_body s kinds.Key r ps =
 round_body s kinds.Evidence r ps = Evidence (entries (number (part ps 0)) (part ps 1))
 round_body s kinds.Evict r ps = Evict r (pairs (part ps 2))
 
--- what stands at the places of a kind's fields, whatever the bytes are
+-- the body at the places of a kind's fields, whatever the bytes are
 abbrev pub body_at : Shape → Kind → List ℕ → Body
 body_at s kind bytes =
     let ps = cut (widths s kind bytes) bytes in
     round_body s kind (from_be_bytes w32 (part ps 0)) ps
 
--- what stands in the bytes of a datagram of this kind
+-- the datagram at the places of this kind
 abbrev pub datagram_at : Shape → Kind → List ℕ → Datagram
 datagram_at s kind bytes = record {
   message = record {
@@ -148,7 +148,7 @@ datagram_at s kind bytes = record {
   signature = drop (header_len + fields_len s kind (drop header_len bytes)) bytes;
 }
 
--- The datagram that the bytes spell: the one that stands at the places of its kind, has a spelling and spells these bytes again.
+-- The datagram that the bytes encode: the one at the places of its kind, if it has an encoding and these bytes are its encoding.
 unfoldable pub datagram_of : Shape → List ℕ → Option Datagram
 datagram_of s bytes =
     option_and_then (λ kind. let d = datagram_at s kind bytes in then_some (is_datagram s d && bytes_eq (spelling s d) bytes) d)

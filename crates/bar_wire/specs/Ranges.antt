@@ -1,4 +1,4 @@
--- What has a spelling, decided rule by rule.
+-- The datagrams that have an encoding, decided rule by rule.
 use Rattle.std.specs.Prelude.{ℕ, ◌≡◌, ◌+◌, ◌*◌, ◌^◌, Bool, List, [], ◌∷◌, length}
 use Rattle.std.proofs.Common.{ap}
 use Rattle.std.proofs.lemmas.Bool.{eq-eqb}
@@ -111,7 +111,7 @@ datagram_decided s d =
     (λ h. record { from_fits = h.0.0; to_fits = h.0.1; form = h.0.2; range = h.0.3; may_send = h.0.4; signature_long = h.1 })
     (λ h. ((h.from_fits, h.to_fits, h.form, h.range, h.may_send), h.signature_long))
 
--- whether a datagram has a spelling
+-- whether a datagram has an encoding
 abbrev pub is_datagram : Shape → Datagram → Bool
 is_datagram s d = (datagram_decided s d).test
 

@@ -1,7 +1,7 @@
-//! What the body of a datagram tells.
+//! The kinds of bodies that peers sign.
 ghost use Rattle.std.specs.Prelude.{◌≡◌};
 ghost use Rattle.bar_wire.specs.Bodies.{is_peer_kind};
-ghost use Rattle.bar_wire.specs.Views.{plain};
+ghost use Rattle.bar_wire.specs.Code.Views.{plain};
 
 use crate::view::Body;
 

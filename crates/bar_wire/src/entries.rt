@@ -6,7 +6,7 @@ ghost use Rattle.bar_wire.specs.Places.{entries, entries_len, pairs};
 use crate::limits::LARGEST_DATAGRAM;
 use bar_bytes::split_u16;
 
-/// Whether the bytes are `count` lengths, each followed by as many bytes.
+/// Whether the bytes are `count` lengths, each followed by that many bytes.
 pub(crate) fn has_entries(count: u8, bytes: &[u8]) -> bool
     ensures { IsTrue result ↔ (length bytes.now ≡ entries_len count bytes.now) }
 {
@@ -26,7 +26,7 @@ pub(crate) fn has_entries(count: u8, bytes: &[u8]) -> bool
     rest.is_empty()
 }
 
-/// Whether each entry has a length that an entry may have.
+/// Whether the length of each entry is in range.
 fn has_lengths(count: u8, bytes: &[u8]) -> bool
     requires { length bytes.now ≡ entries_len count bytes.now }
     ensures { IsTrue result ↔ AllByRecursion IsEntryInRange (entries count bytes.now) }
@@ -43,7 +43,7 @@ fn has_lengths(count: u8, bytes: &[u8]) -> bool
     true
 }
 
-/// Whether the parties rise, and are peers.
+/// Whether the parties are peers in strictly increasing order.
 fn rises_to(peers: u16, count: u8, parties: &[u8]) -> bool
     requires { length parties.now ≡ 2 * count }
     ensures { IsTrue result ↔ RisesTo peers 0 (pairs parties.now) }
@@ -61,7 +61,7 @@ fn rises_to(peers: u16, count: u8, parties: &[u8]) -> bool
     true
 }
 
-/// Whether there are one or two datagrams, each of a length that one may have.
+/// Whether there are one or two datagrams, each of a length in range.
 pub(crate) fn are_datagrams_in_range(count: u8, bytes: &[u8]) -> bool
     requires { length bytes.now ≡ entries_len count bytes.now }
     ensures { IsTrue result ↔ AreDatagramsInRange (entries count bytes.now) }
@@ -72,7 +72,7 @@ pub(crate) fn are_datagrams_in_range(count: u8, bytes: &[u8]) -> bool
     has_lengths(count, bytes)
 }
 
-/// Whether there are parties, and they are peers that rise.
+/// Whether there is at least one party, and they are peers in strictly increasing order.
 pub(crate) fn are_parties_in_range(peers: u16, count: u8, parties: &[u8]) -> bool
     requires { length parties.now ≡ 2 * count }
     ensures { IsTrue result ↔ ArePartiesInRange peers (pairs parties.now) }

@@ -6,7 +6,7 @@ use crate::entries::{are_datagrams_in_range, has_entries};
 use crate::fault::WireFault;
 use bar_bytes::{split_u8, split_u16};
 
-/// The one or two datagrams that an EVIDENCE shows.
+/// The one or two datagrams that an EVIDENCE contains.
 #[derive(Clone, Copy, Debug)]
 pub struct EvidenceView<'a> {
     pub one: &'a [u8],
@@ -46,18 +46,18 @@ fn read_evidence(bytes: &[u8]) -> Result<EvidenceView<'_>, WireFault>
     })
 }
 
-/// The datagrams of the body of an EVIDENCE: its count, and each datagram after its length. Takes no memory.
+/// The datagrams of the body of an EVIDENCE: its count, and each datagram after its length. Allocates no memory.
 ///
 /// # Errors
 ///
-/// BadLength where the bytes aren't as many as the count and the lengths give, or a count or length isn't there; else BadField where the
-/// count isn't 1 or 2, or a length isn't 1 to 65,507.
+/// BadLength if the number of bytes isn't the one that the count and the lengths give, or a count or length is missing. Otherwise BadField
+/// if the count isn't 1 or 2, or a length isn't 1 to 65,507.
 pub fn split_evidence(bytes: &[u8]) -> Result<EvidenceView<'_>, WireFault>
-    // What is found is what the bytes are made of.
+    // The datagrams found are those that the bytes encode.
     ensures found { IfOk result (λ v. IsEvidence bytes.now (datagrams_of v)) }
-    // What the bytes are made of is found.
+    // If the bytes encode datagrams, these are found.
     ensures only { (ds : List (List ℕ)) → IsEvidence bytes.now ds → IsOkAnd result (λ v. datagrams_of v ≡ ds) }
-    // A fault is the first that holds.
+    // An error is the first fault that applies.
     ensures fault { IfErr result (IsEvidenceFault bytes.now) }
 {
     read_evidence(bytes)

@@ -1,7 +1,7 @@
 ghost use Rattle.std.specs.Prelude.{◌≡◌, ◌+◌, ◌≤◌, [], ◌∷◌, length};
-ghost use Rattle.bar_bytes.specs.Putting.{Appends};
+ghost use Rattle.bar_bytes.specs.Code.Putting.{Appends};
 ghost use Rattle.bar_window.specs.Exchange.{kind_code, role_code};
-ghost use Rattle.bar_wire.specs.Sides.{ReadsSide};
+ghost use Rattle.bar_wire.specs.Code.Sides.{ReadsSide};
 
 use bar_bytes::{put_u8, split_u8};
 use bar_window::{Role, XKind};

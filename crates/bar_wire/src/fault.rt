@@ -1,12 +1,12 @@
 use thiserror::Error;
 
-/// What is wrong with the bytes of a datagram: the first that holds, in this order. Each is shown by its name.
+/// The fault of the bytes of a datagram: the first of these that applies, in this order. Each is displayed as its name.
 #[derive(Clone, Copy, Debug, PartialEq, Eq, Error)]
 pub enum WireFault {
     /// There are fewer than 16 bytes.
     #[error("Short")]
     Short,
-    /// The first two bytes are no magic.
+    /// The first two bytes aren't the magic.
     #[error("BadMagic")]
     BadMagic,
     /// The version isn't the session's.
@@ -15,10 +15,10 @@ pub enum WireFault {
     /// The kind isn't 1 to 12.
     #[error("BadKind")]
     BadKind,
-    /// The session id is another.
+    /// The session id isn't the session's.
     #[error("BadSession")]
     BadSession,
-    /// The number of bytes isn't the one that the kind and its raw counts give, or a count or length isn't there.
+    /// The number of bytes isn't the one that the kind and its raw counts give, or a count or length is missing.
     #[error("BadLength")]
     BadLength,
     /// A field is out of its range.

@@ -1,8 +1,8 @@
 ghost use Rattle.std.specs.Prelude.{◌≡◌, ◌<◌, length};
 ghost use Rattle.bar_wire.specs.declared.kind.Kind.TheVariants as kinds;
 ghost use Rattle.bar_wire.specs.Places.{fields_len};
-ghost use Rattle.bar_wire.specs.Views.{plain, AreWhole};
-ghost use Rattle.bar_wire.specs.Reading.{HasBytes, Reads, ReadsForm, IsReadButRanges};
+ghost use Rattle.bar_wire.specs.Code.Views.{plain, AreWhole};
+ghost use Rattle.bar_wire.specs.Code.Reading.{HasBytes, Reads, ReadsForm, IsReadButRanges};
 
 use crate::exchange::split_side;
 use crate::kind::Kind;
@@ -191,7 +191,7 @@ fn raw_body<'a>(kind: Kind, bytes: &'a [u8], shape: &Shape) -> Option<Body<'a>>
     }
 }
 
-/// The body, where each of its fields is in its range.
+/// The body, if each of its fields is in its range.
 fn in_range<'a>(kind: Kind, body: Body<'a>, bytes: &[u8], shape: &Shape) -> Option<Body<'a>>
     requires { IsReadButRanges shape.now kind bytes.now body }
     ensures { Reads shape.now kind bytes.now result }
@@ -203,7 +203,7 @@ fn in_range<'a>(kind: Kind, body: Body<'a>, bytes: &[u8], shape: &Shape) -> Opti
     }
 }
 
-/// The body that the bytes after the header spell, where they spell one of the kind.
+/// The body that the bytes after the header encode, if they encode one of the kind.
 pub(crate) fn read_body<'a>(kind: Kind, bytes: &'a [u8], shape: &Shape) -> Option<Body<'a>>
     requires { length bytes.now ≡ fields_len shape.now kind bytes.now }
     ensures { Reads shape.now kind bytes.now result }

@@ -1,6 +1,6 @@
 ghost use Rattle.std.specs.Prelude.{◌≡◌, ◌↔◌, IsTrue, MatchResult};
 ghost use Rattle.bar_wire.specs.Faults.{IsFirstFault};
-ghost use Rattle.bar_wire.specs.Headers.{IsHeader, IsCutAt};
+ghost use Rattle.bar_wire.specs.Code.Headers.{IsHeader, IsCutAt};
 
 use crate::fault::WireFault;
 use crate::kind::Kind;
@@ -9,7 +9,7 @@ use crate::limits::HEADER_LEN;
 use crate::shape::Shape;
 use bar_bytes::{split_array, split_u16};
 
-/// What stands before the fields, and what follows.
+/// The header of a datagram, and the bytes after it.
 #[derive(Drop)]
 struct Header<'a> {
     pub kind: Kind,
@@ -56,7 +56,7 @@ fn read_header<'a>(bytes: &'a [u8], shape: &Shape) -> Result<Header<'a>, WireFau
     })
 }
 
-/// The parts of a datagram, by its length.
+/// The parts of a datagram, cut by its length.
 #[derive(Drop)]
 pub(crate) struct Cut<'a> {
     pub kind: Kind,

@@ -1,7 +1,7 @@
-/// What a core takes in one step.
+/// The input of one step of a core.
 #[derive(Clone, Copy, Debug)]
 pub enum Input<'a> {
-    /// Time goes on by one tick.
+    /// One tick of time passes.
     Tick,
     /// The bytes of a datagram that arrived.
     Datagram(&'a [u8]),

@@ -19,7 +19,7 @@ pub enum Kind {
 }
 
 impl Kind {
-    /// Whether datagrams of this kind bear a signature.
+    /// Whether datagrams of this kind have a signature.
     pub fn is_signed(self) -> bool
         ensures { result ≡ is_signed_kind self }
     {
@@ -56,7 +56,7 @@ impl Kind {
         }
     }
 
-    /// The kind of a code, or None where no kind has it.
+    /// The kind with this code, or None if there is none.
     pub fn at(code: u8) -> Option<Kind>
         ensures kind { result ≡ kind_at code }
         ensures code { IfSome result (λ kind. code ≡ code_of kind) }

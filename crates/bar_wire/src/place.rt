@@ -1,9 +1,9 @@
-//! Where a datagram of an exchange stands.
+//! The place of a datagram of an exchange: the exchange, and the side of its sender.
 ghost use Rattle.std.specs.Prelude.{◌≡◌, option_map};
 ghost use Rattle.bar_wire.specs.Datagram.{exchange_by, part_of, place_of};
-ghost use Rattle.bar_wire.specs.Views.{datagram, plain};
+ghost use Rattle.bar_wire.specs.Code.Views.{datagram, plain};
 ghost use Rattle.bar_wire.specs.declared.shape.Shape.{Shape};
-ghost use Rattle.bar_wire.specs.Sides.{place_in};
+ghost use Rattle.bar_wire.specs.Code.Sides.{place_in};
 
 use crate::view::{Body, View};
 use bar_window::{Exchange, Role, XKind};
@@ -31,7 +31,7 @@ pub fn exchange_by(round: u32, kind: XKind, role: Role, from: u16, to: u16) -> E
     }
 }
 
-/// The round, kind and side of the sender that a datagram of an exchange speaks of.
+/// The round, kind of exchange and sender's side of a body that belongs to an exchange.
 fn part_of(body: &Body<'_>) -> Option<(u32, XKind, Role)>
     ensures { result ≡ part_of (plain body.now) }
 {

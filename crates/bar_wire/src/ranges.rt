@@ -1,7 +1,7 @@
 ghost use Rattle.std.specs.Prelude.{◌+◌, ◌*◌, ◌<◌, ◌↔◌, IsTrue};
 ghost use Rattle.bar_window.specs.Terms.{plain_terms};
 ghost use Rattle.bar_wire.specs.Grammar.{InRange, HasFewJunk, IsPeer, MaySend};
-ghost use Rattle.bar_wire.specs.Views.{plain, AreWhole};
+ghost use Rattle.bar_wire.specs.Code.Views.{plain, AreWhole};
 
 use crate::entries::{are_datagrams_in_range, are_parties_in_range};
 use crate::kind::Kind;
@@ -62,7 +62,7 @@ fn is_peer(party: u16, shape: &Shape) -> bool
     0 < party && party <= shape.peers
 }
 
-/// Whether a party sends a kind to another.
+/// Whether a party may send a kind to another.
 pub(crate) fn may_send(kind: Kind, from: u16, to: u16, shape: &Shape) -> bool
     ensures { IsTrue result ↔ MaySend shape.now kind from to }
 {

@@ -6,7 +6,7 @@ ghost use Rattle.bar_wire.specs.Datagram.{Datagram};
 ghost use Rattle.bar_wire.specs.Grammar.{SpellsDatagram, signature_len};
 ghost use Rattle.bar_wire.specs.Places.{datagram_of};
 ghost use Rattle.bar_wire.specs.Faults.{IsFirstFault};
-ghost use Rattle.bar_wire.specs.Views.{datagram, signature_bytes, IsView};
+ghost use Rattle.bar_wire.specs.Code.Views.{datagram, signature_bytes, IsView};
 
 use crate::fault::WireFault;
 use crate::fields::read_body;
@@ -16,7 +16,7 @@ use crate::ranges::may_send;
 use crate::shape::Shape;
 use crate::view::View;
 
-/// The signature, where the kind bears one.
+/// The signature, if the kind has one.
 fn signature<'a>(kind: Kind, sig: &'a [u8], shape: &Shape) -> Option<&'a [u8]>
     requires { length sig.now ≡ signature_len shape.now kind }
     ensures bytes { signature_bytes result ≡ sig.now }
@@ -46,15 +46,15 @@ fn read<'a>(bytes: &'a [u8], shape: &Shape) -> Result<View<'a>, WireFault>
     })
 }
 
-/// The datagram that the bytes spell, or the first fault where they spell none. Takes no memory; the view borrows its parts.
+/// The datagram that the bytes encode, or the first fault if they encode none. Allocates no memory; the view borrows its parts.
 pub fn decode<'a>(bytes: &'a [u8], shape: &Shape) -> Result<View<'a>, WireFault>
-    // What is read is spelled by the bytes.
+    // The bytes encode the datagram that is read.
     ensures found { IfOk result (IsView shape.now bytes.now) }
-    // What the bytes spell is read.
+    // If the bytes encode a datagram, it is read.
     ensures only { (d : Datagram) → SpellsDatagram shape.now d bytes.now → IsOkAnd result (λ v. datagram shape.now v ≡ d) }
-    // A fault is the first that holds.
+    // An error is the first fault that applies.
     ensures fault { IfErr result (IsFirstFault shape.now bytes.now) }
-    // So the answer is the datagram of the bytes.
+    // So the result is the datagram of the bytes.
     ensures told { option_map (datagram shape.now) (result_ok result) ≡ datagram_of shape.now bytes.now }
 {
     read(bytes, shape)

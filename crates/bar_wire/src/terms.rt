@@ -3,7 +3,7 @@ ghost use Rattle.bar_window.specs.declared.exchange.XKind.{XKind};
 ghost use Rattle.bar_window.specs.declared.exchange.XKind.TheVariants as kinds;
 ghost use Rattle.bar_window.specs.Exchange.{kind_code};
 ghost use Rattle.bar_wire.specs.Places.{terms_len};
-ghost use Rattle.bar_wire.specs.Terms.{ReadsTerms};
+ghost use Rattle.bar_wire.specs.Code.Terms.{ReadsTerms};
 
 use crate::shape::Shape;
 use crate::windows::read_windows;

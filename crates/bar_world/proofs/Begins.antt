@@ -1,4 +1,4 @@
--- What a simulation begins with.
+-- The start of a simulation.
 use Rattle.std.proofs.Common.{◌≡◌, ◌≤◌, ◌∙◌, ℕ, ◌*◌, List, length, refl, sym, ap, subst, arith}
 use Rattle.bar_case.specs.Keystream.{keystream}
 use Rattle.bar_lms.specs.declared.params.Params.{Params}
@@ -8,14 +8,14 @@ use Rattle.bar_seeds.specs.declared.secrets.Secrets.{Secrets}
 use Rattle.bar_rules.specs.Member.{Session}
 use Rattle.bar_rules.specs.World.World.{member}
 use Rattle.bar_world.specs.declared.lies.Liar.{Liar}
-use Rattle.bar_world.specs.Held.{all_held, held_by}
+use Rattle.bar_world.specs.Code.Held.{all_held, held_by}
 use Rattle.bar_world.specs.Lies.{IsLiar}
 use Rattle.bar_world.specs.Made.{session_by}
-use Rattle.bar_world.specs.Setups.{AreOfParties, setup_of}
+use Rattle.bar_world.specs.Code.Setups.{AreOfParties, setup_of}
 use Rattle.bar_world.specs.Sim.{numbers, secrets, setup, shape, source, stream}
 use Rattle.bar_world.proofs.MadeOfHeld.{held-are}
 
--- the setup of what the code makes
+-- the setup that the code makes
 pub setup-is : (seed : ℕ) (session : Session) (held : List Secrets) (bytes : List ℕ) → session ≡ (setup seed).session → held ≡ all_held seed
     → bytes ≡ stream seed → setup_of session held bytes ≡ setup seed
 setup-is seed session held bytes a b c = λ i. setup_of (a i) (b i) (c i)
@@ -26,7 +26,7 @@ are-parties seed session held a b =
     subst (λ (s : Session). AreOfParties s held) (sym a)
     (subst (λ list. AreOfParties (setup seed).session list) (sym b) (held-are (setup seed).session (secrets seed)))
 
--- the session that is made of what the parties hold
+-- the session made from what the parties hold
 pub session-by-is : (seed : ℕ) (s : Shape) (held : List Secrets) → s ≡ shape seed → held ≡ all_held seed
     → session_by s numbers held ≡ (setup seed).session
 session-by-is seed s held a b = λ i. session_by (a i) numbers (b i)

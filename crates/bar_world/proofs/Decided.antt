@@ -1,4 +1,4 @@
--- What becomes of an entry by the number drawn.
+-- How a drawn number decides an entry of the queue.
 use Rattle.std.specs.declared.alloc.AllocError.{AllocError}
 use Rattle.std.specs.declared.alloc.Global.{Global}
 use Rattle.std.specs.declared.collections.VecDeque.{VecDeque}
@@ -6,9 +6,9 @@ use Rattle.rand_chacha.specs.ChaCha.{ChaCha, word_at, next_word}
 use Rattle.bar_rules.specs.World.World as plain
 use Rattle.bar_world.specs.declared.moves.Move.{Move}
 use Rattle.bar_world.specs.declared.network.Network.{Network}
-use Rattle.bar_world.specs.Moves.{plain_move}
+use Rattle.bar_world.specs.Code.Moves.{plain_move}
 use Rattle.bar_world.specs.Network.{Game, Play, moved, decided, lost_one, delivered_once, delivered_twice, drew, served, served_by}
-use Rattle.bar_world.specs.Playing.{HasCounts, IsPlaying, Plays, queue_of}
+use Rattle.bar_world.specs.Code.Playing.{HasCounts, IsPlaying, Plays, queue_of}
 use Rattle.std.proofs.Common.{◌≡◌, ℕ, suc, Bool, true, false, [], ◌∷◌, ◌+◌, ◌%◌, ◌^◌, ◌<◌, refl, sym, ap, ◌∙◌, subst, eqb, cond, arith}
 use Rattle.std.proofs.lemmas.Bool.{ne_eqb}
 use Rattle.std.specs.Prelude.{Result, Ok, Err, OnOk}
@@ -42,7 +42,7 @@ twice-counted game play net is = record {
   repeated = ap (λ n. n + 1) is.repeated;
 }
 
--- ---- by the tests on the number
+-- ---- the cases of the number
 
 abbrev By : plain.Move → Bool → Bool → Game → Play → Play
 By m b c game play = cond b (lost_one play) (cond c (delivered_twice game play m) (delivered_once game play m))

@@ -1,4 +1,4 @@
--- Whom the broadcaster of a world evicted.
+-- The peers that the broadcaster of a world evicted.
 use Rattle.bar_wire.specs.Evidence.{evidence_bytes}
 use Rattle.bar_wire.specs.Inputs.{Input}
 use Rattle.bar_core.specs.Rules.{Rules}
@@ -9,17 +9,17 @@ use Rattle.bar_rules.specs.Peer.Log.{Log, kept}
 use Rattle.bar_rules.specs.World.World.{Setup, Move, member}
 use Rattle.bar_laws.specs.Parties.{ForgesNothing, IsCastersLog, NobodyIsEvicted, after}
 use Rattle.bar_laws.specs.OwnRuns.{inputs_of, BroadcasterRuns, PeersRun}
-use Rattle.bar_caster.specs.Core.{caster_rules}
-use Rattle.bar_caster.specs.Memory.{member_of, stream_of}
-use Rattle.bar_caster.specs.StandsFor.{log_of}
+use Rattle.bar_caster.specs.Code.Core.{caster_rules}
+use Rattle.bar_caster.specs.Code.Memory.{member_of, stream_of}
+use Rattle.bar_caster.specs.Code.StandsFor.{log_of}
 use Rattle.bar_world.specs.declared.world.World.{World as KeptWorld}
-use Rattle.bar_world.specs.Kept.{StandsFor}
+use Rattle.bar_world.specs.Code.Kept.{StandsFor}
 use Rattle.std.proofs.Common.{◌≡◌, ◌≤◌, ◌<◌, ◌∙◌, ℕ, zero, suc, ◌+◌, Bool, true, List, refl, sym, ap, subst, arith}
 use Rattle.std.specs.Prelude.{Option, Some, None, Contains, filter, is_some, option_map}
 use Rattle.std.specs.List.{All, range_with_len}
 use Rattle.std.proofs.lemmas.List.Elements.{All-cons, All-contains, All-filter, All-nil, filter_agree}
 
--- by the rules of a core
+-- the evicted peers by the rules of a core
 abbrev evicted_by : Rules → List Input → List ℕ
 evicted_by rules inputs = filter (λ q. is_some (rules.evidence inputs q)) (range_with_len 1 rules.peers)
 
@@ -32,7 +32,7 @@ by-rules : (me : Member) (stream : List ℕ) (inputs : List Input)
 by-rules me stream inputs =
     filter_agree _ _ (λ q. some-mapped evidence_bytes (kept (caster_log_after me stream inputs) q)) (peers_of me.session)
 
--- what the memory tells is what the definitions say
+-- the evicted peers in the memory are those of the definitions
 pub same-evicted : (setup : Setup) (moves : List Move) (log : Log) (w : KeptWorld) → BroadcasterRuns → StandsFor setup moves w
     → IsCastersLog (after setup moves) log
     → evicted w.caster.memory.session (log_of w.caster.memory (inputs_of setup moves 0)) ≡ evicted setup.session log
@@ -45,7 +45,7 @@ same-evicted setup moves log w runs s is =
     ∙ sym (by-rules (member setup 0) setup.stream inputs)
     ∙ ap (λ l. evicted setup.session l) log_is
 
--- ---- nobody who is honest
+-- ---- no honest peer is evicted
 
 in-range : (low high a n : ℕ) → low ≤ a → a + n ≤ high → All (λ q. (low ≤ q) × (q < high)) (range_with_len a n)
 in-range low high a zero from to = All-nil _

@@ -1,4 +1,4 @@
--- A kept world at a move that gives nothing.
+-- A kept world after a move that gives no input.
 use Rattle.bar_wire.specs.Inputs.{Input}
 use Rattle.bar_wire.specs.Inputs as event
 use Rattle.bar_rules.specs.World.World.{Setup, World, Move, Deliver, happens, delivered}
@@ -6,9 +6,9 @@ use Rattle.bar_laws.specs.Parties.{after}
 use Rattle.bar_laws.specs.OwnRuns.{brought_to, input_at}
 use Rattle.bar_world.specs.declared.packet.Packet.{Packet}
 use Rattle.bar_world.specs.declared.world.World.{World as KeptWorld}
-use Rattle.bar_world.specs.Given.{Gives}
-use Rattle.bar_world.specs.Kept.{StandsFor}
-use Rattle.bar_world.specs.Packets.{packet_of}
+use Rattle.bar_world.specs.Code.Given.{Gives}
+use Rattle.bar_world.specs.Code.Kept.{StandsFor}
+use Rattle.bar_world.specs.Code.Packets.{packet_of}
 use Rattle.bar_world.proofs.Worlds.{after-more, nobody-takes, others-took}
 use Rattle.std.proofs.Common.{◌≡◌, ◌≤◌, ◌<◌, ◌∙◌, ℕ, ◌+◌, List, [], ◌∷◌, ◌++◌, cond, length, sym, ap, arith}
 use Rattle.std.specs.Prelude.{Some, None, option_map, slice_get}
@@ -32,7 +32,7 @@ idle-stands setup moves m kept same none s =
       packets = s.packets ∙ ap (λ (w : World). w.packets) (sym next);
     }
 
--- an input of a party that isn't there
+-- an input of a party that doesn't exist
 pub nobody-took : (setup : Setup) (moves : List Move) (m : Move) (p : ℕ) (input : Input) (kept : KeptWorld) → length kept.peers.items < p
     → Gives setup (after setup moves) m p input → StandsFor setup moves kept → StandsFor setup (moves ++ m ∷ []) kept
 nobody-took setup moves m p input kept far gives s =
@@ -42,7 +42,7 @@ nobody-took setup moves m p input kept far gives s =
     (λ q low. gives.inputs q ∙ ap (λ b. cond b (input ∷ []) []) (ne_eqb p q (λ e. omega arith)))
     s
 
--- a `Deliver` past the pool
+-- a `Deliver` past the end of the pool
 pub past-pool : (setup : Setup) (moves : List Move) (k : ℕ) (kept : KeptWorld) → length kept.pool.items ≤ k → StandsFor setup moves kept
     → StandsFor setup (moves ++ Deliver k ∷ []) kept
 past-pool setup moves k kept past s =
@@ -54,7 +54,7 @@ past-pool setup moves k kept past s =
     (λ q low. ap (λ o. brought_to q o) none)
     s
 
--- what a `Deliver` gives
+-- the input that a `Deliver` gives
 pub delivered-gives : (setup : Setup) (moves : List Move) (k : ℕ) (kept : KeptWorld) (packet : Packet)
     → slice_get kept.pool.items k ≡ Some packet → StandsFor setup moves kept
     → Gives setup (after setup moves) (Deliver k) packet.to (event.Datagram packet.bytes.items)

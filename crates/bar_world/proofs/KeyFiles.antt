@@ -1,4 +1,4 @@
--- Key files that are made of secrets.
+-- Key files made from secrets.
 use Rattle.bar_lms.specs.declared.params.Params.{Params}
 use Rattle.bar_seeds.specs.declared.secrets.Secrets.{Secrets}
 use Rattle.bar_wire.specs.declared.shape.Shape.{Shape}
@@ -16,7 +16,7 @@ held-back : (params : Params) (rounds : ℕ) (held : List Secrets) → held_in (
 held-back params rounds [] = refl
 held-back params rounds (k ∷ held) = ap (λ list. k ∷ list) (held-back params rounds held)
 
--- the secrets that key files were made of are in them
+-- key files contain the secrets that they were made from
 pub held-is : (params : Params) (rounds : ℕ) (held : List Secrets) (keys : List KeyFile) → keys ≡ keys_by params rounds held
     → held_in keys ≡ held
 held-is params rounds held keys made = ap held_in made ∙ held-back params rounds held
@@ -37,7 +37,7 @@ made-at params rounds keys i key made at =
     (sym at ∙ ap (λ list. slice_get list i) made ∙ slice_get-map (key_by params rounds) (held_in keys) i
     ∙ ap (λ o. option_map (key_by params rounds) o) (secrets-at keys i key at))
 
--- a key file that is made of a party's secrets is the party's
+-- a key file made from a party's secrets is that party's
 pub is-key-file : (session : Session) (caster : Bool) (key : KeyFile) → key ≡ key_by session.params session.shape.rounds key.secrets
     → IsHeldBy session caster key.secrets → IsKeyFileOf session caster key
 is-key-file session caster key made held =

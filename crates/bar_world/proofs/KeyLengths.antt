@@ -1,4 +1,4 @@
--- How long a KEY is.
+-- The length of a KEY.
 use Rattle.bar_bytes.proofs.Lengths.{length_u16, length_u32}
 use Rattle.bar_wire.specs.declared.shape.Shape.{Shape}
 use Rattle.bar_wire.specs.Datagram.{Body, Key}

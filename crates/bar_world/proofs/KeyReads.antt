@@ -1,4 +1,4 @@
--- What is read from the bytes of a KEY names the same sender and holds no evidence, whatever stands behind its fields.
+-- A datagram decoded from the bytes of a KEY names the same sender and contains no evidence, whatever follows its fields.
 use Rattle.bar_bytes.specs.Bytes.{u16_bytes}
 use Rattle.bar_bytes.proofs.Lengths.{length_u16}
 use Rattle.bar_bytes.proofs.Options.{then-value}
@@ -14,14 +14,14 @@ use Rattle.std.proofs.Math.Seq.{drop-append_seam, take-append_seam}
 use Rattle.std.specs.Int.{w16, from_be_bytes}
 use Rattle.std.specs.Prelude.{Some, slice_range}
 
--- the second of the parts that stand one after the other
+-- the second of three consecutive parts
 second-part : (n m : ℕ) (a b c d : List ℕ) → length a ≡ n → length b ≡ m → take m (drop n ((a ++ (b ++ c)) ++ d)) ≡ b
 second-part n m a b c d long-a long-b = rw (← long-a, ← long-b) (simp (append_assoc, drop-append_seam, take-append_seam))
 
 abbrev pub key_message : ℕ → ℕ → KeyGiven → Message
 key_message from to k = record { from = from; to = to; body = Key k }
 
--- the sender stands in bytes 12 and 13
+-- the sender is in bytes 12 and 13
 sender-at : (s : Shape) (from to : ℕ) (k : KeyGiven) (sig : List ℕ) → from < 2 ^ 16
     → from_be_bytes w16 (slice_range (message_bytes s (key_message from to k) ++ sig) 12 14) ≡ from
 sender-at s from to k sig h =

@@ -1,4 +1,4 @@
--- What is accepted names a leaf, and how a liar signs.
+-- An accepted signature names a leaf, and a liar signs as a member.
 use Rattle.bar_lms.proofs.Decided.{under_test}
 use Rattle.bar_lms.specs.Params.{levels, signature_len}
 use Rattle.bar_lms.specs.Schemes.{signed_by}
@@ -8,7 +8,7 @@ use Rattle.bar_lms.specs.declared.params.Height.{Height}
 use Rattle.bar_lms.proofs.HssLemmas.{signature_some}
 use Rattle.bar_wire.specs.Datagram.{Datagram}
 use Rattle.bar_wire.specs.Places as places
-use Rattle.bar_wire.specs.Views.{datagram}
+use Rattle.bar_wire.specs.Code.Views.{datagram}
 use Rattle.bar_wire.specs.declared.shape.Shape.{Shape}
 use Rattle.bar_wire.specs.declared.view.View.{View}
 use Rattle.bar_rules.specs.Member.{Session, Member, key_of_party}
@@ -34,7 +34,7 @@ accepted-has-leaf s bytes d single all reads sign =
       leaf = subst (λ p. number_at d.signature 0 < 2 ^ levels p.height) a.params a.accepted.leaf;
     }
 
--- what a view of the bytes tells of their delivery
+-- how bytes are delivered, given their view
 pub told-delivery : (me : Member) (s : Shape) (bytes read : List ℕ) (v : View) (number to : ℕ) (lie : Option (List ℕ))
     → me.session.shape ≡ s → me.session.top ≡ None → read ≡ bytes → Some (datagram s v) ≡ places.datagram_of s read → IsAcceptedIn me.session bytes
     → (HasLeafIfSigned me.session (datagram me.session.shape v) → lie ≡ lie_in me (Some (datagram me.session.shape v)))
@@ -46,7 +46,7 @@ told-delivery me s bytes read v number to lie same single is told all lies =
     ap (λ z. delivery_by number to z)
     (lies (accepted-has-leaf me.session bytes (datagram me.session.shape v) single all reads) ∙ ap (λ z. lie_in me z) (sym reads))
 
--- a liar signs as this member does
+-- the liar's signature is this member's
 pub liar_signs : (me : Member) (liar : Liar) (leaf : ℕ) (message : List ℕ) → IsLiar me liar
     → signature_of me leaf message ≡ signed liar.signer leaf message
 unfolding signed_by

@@ -1,4 +1,4 @@
--- A session that is made from secrets fits each of them.
+-- A session made from secrets contains the keys and anchors of each of them.
 use Rattle.bar_lms.specs.declared.params.Params.{Params}
 use Rattle.bar_lms.specs.Schemes.{public_by}
 use Rattle.bar_lms.specs.Secret.{public_key}

@@ -1,4 +1,4 @@
--- A session that is made of what its parties hold.
+-- A session made from what its parties hold.
 use Rattle.bar_lms.specs.declared.params.Params.{Params}
 use Rattle.bar_lms.specs.Secret.{public_key}
 use Rattle.bar_seeds.specs.declared.secrets.Secrets.{Secrets}
@@ -11,14 +11,14 @@ use Rattle.bar_rules.specs.World.World.{IsSetup}
 use Rattle.bar_world.specs.declared.numbers.Numbers.{Numbers}
 use Rattle.bar_world.specs.Keys.{AreMade, anchor_in, held_in, key_by, public_in}
 use Rattle.bar_world.specs.Made.{AreNumbers, signing, keys_of, seeding, anchors_from, anchors_of, session_by}
-use Rattle.bar_world.specs.Setups.{AreOfParties, setup_of}
+use Rattle.bar_world.specs.Code.Setups.{AreOfParties, setup_of}
 use Rattle.bar_world.proofs.MadeLemmas.{made-is-setup}
 use Rattle.std.proofs.Common.{◌≡◌, ℕ, zero, suc, List, [], ◌∷◌, ◌+◌, map, drop, length, refl, sym, ap, ◌∙◌, arith}
 use Rattle.std.proofs.lemmas.List.{drop-map, length-map}
 use Rattle.std.proofs.lemmas.Simd.{map-map}
 use Rattle.std.specs.Prelude.{Some, slice_get}
 
--- what the parties from this one on hold, whose secrets these are
+-- what consecutive parties hold that have these secrets, starting with `party`
 abbrev pub held_from : List ℕ → ℕ → List (List ℕ) → List Secrets
 held_from id party [] = []
 held_from id party (secret ∷ secrets) = seeding id party secret ∷ held_from id (party + 1) secrets

@@ -1,4 +1,4 @@
--- A network at one move of its play.
+-- A network after one move of its play.
 use Rattle.std.specs.declared.alloc.AllocError.{AllocError}
 use Rattle.rand_chacha.specs.ChaCha.{ChaCha, word_at}
 use Rattle.bar_wire.specs.Datagram.{Datagram, is_signed}
@@ -8,11 +8,11 @@ use Rattle.bar_rules.specs.World.World as plain
 use Rattle.bar_laws.specs.Parties.{IsOfParty, SentIsAccepted, after}
 use Rattle.bar_world.specs.declared.network.Network.{Network}
 use Rattle.bar_world.specs.declared.packet.Packet.{Packet}
-use Rattle.bar_world.specs.Kept.{StandsFor}
+use Rattle.bar_world.specs.Code.Kept.{StandsFor}
 use Rattle.bar_world.specs.Lies.{IsAcceptedIn, IsLiar}
 use Rattle.bar_world.specs.Network.{Game, Play, deliveries, moved}
-use Rattle.bar_world.specs.Packets.{packet_of, packets_of}
-use Rattle.bar_world.specs.Playing.{AreAcceptedIn, IsPlaying, Plays, queue_of}
+use Rattle.bar_world.specs.Code.Packets.{packet_of, packets_of}
+use Rattle.bar_world.specs.Code.Playing.{AreAcceptedIn, IsPlaying, Plays, queue_of}
 use Rattle.bar_world.proofs.Worlds.{after-more}
 use Rattle.std.proofs.Common.{◌≡◌, ℕ, List, [], ◌∷◌, ◌++◌, ◌+◌, length, drop, sym, ap, ◌∙◌, subst}
 use Rattle.std.specs.Prelude.{Result, Ok, Err, OnOk, true}
@@ -20,7 +20,7 @@ use Rattle.std.specs.List.{AllByRecursion}
 use Rattle.std.proofs.lemmas.List.{length-map}
 use Rattle.std.proofs.lemmas.Option.{same_Some}
 
--- what a party sent is accepted
+-- a signed datagram that a party sent is accepted
 of-party : (setup : Setup) (packet : ℕ × List ℕ) → IsOfParty setup packet → IsAcceptedIn setup.session packet.1
 of-party setup packet of d reads =
     subst (λ (d : Datagram). is_signed d.message.body ≡ true → is_signed_by setup.session d ≡ true)
@@ -31,13 +31,13 @@ all-accepted : (setup : Setup) (packets : List (ℕ × List ℕ)) → AllByRecur
 all-accepted setup [] all = tt
 all-accepted setup (packet ∷ packets) all = (of-party setup packet all.0, all-accepted setup packets all.1)
 
--- what is delivered after a move is what was sent at it
+-- after a move, the deliveries of what it sent are in the queue
 abbrev Queued : Network → Network → ℕ → List Packet → Type 0
 Queued old new from pool =
     (g : Game) → IsLiar (member g.setup g.liar) old.liar → AreAcceptedIn g.setup.session (packets_of pool)
     → queue_of new.queue.items ≡ queue_of old.queue.items ++ deliveries g from (drop from (packets_of pool))
 
--- nothing else is changed
+-- Nothing else changes.
 pub record IsOnlyMoved (old new : Network) : Type 0 where
   pub liar : new.liar ≡ old.liar
   pub words : new.words ≡ old.words
@@ -79,7 +79,7 @@ moved-playing law game play m old new from is world at queued only = record {
         ∙ sym (length-map old.world.pool.items packet_of)
         ∙ ap length (is.world.packets ∙ ap (λ (w : World). w.packets) (sym is.run_is))
 
--- where the call succeeded
+-- the outcome if the call succeeds
 pub moved-ok : SentIsAccepted → (m : plain.Move) (old new : Network) (from : ℕ) (pool : List Packet) (r : Result (Unit {0}) AllocError)
     → ((setup : Setup) (moves : List plain.Move) → StandsFor setup moves old.world → StandsFor setup (moves ++ m ∷ []) new.world)
     → from ≡ length old.world.pool.items → pool ≡ new.world.pool.items → OnOk r (Queued old new from pool) → IsOnlyMoved old new

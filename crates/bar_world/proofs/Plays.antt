@@ -1,4 +1,4 @@
--- A play is a run of its world, whose hostile moves are all lies of one party.
+-- A play is a run of its world in which every hostile move is a lie of one party.
 use Rattle.bar_wire.specs.Bodies.{evidence_in}
 use Rattle.bar_wire.specs.Datagram.{Datagram, Body, Key}
 use Rattle.bar_rules.specs.Member.{Session, Member}
@@ -16,7 +16,7 @@ use Rattle.std.proofs.lemmas.Bool.{eqb-true, both_ways}
 use Rattle.std.specs.List.{AllByRecursion}
 use Rattle.std.specs.Prelude.{Option, Some, None}
 
--- What a hostile move delivers names the liar as its sender, if it can be read, and holds no evidence.
+-- If the bytes of a hostile move decode, the datagram names the liar as its sender and contains no evidence.
 abbrev pub IsLie : Session → ℕ → Move → Type 0
 IsLie s liar (Hostile to bytes) =
     (d : Datagram) → datagram_of s bytes ≡ Some d → (d.message.from ≡ liar) × (evidence_in d.message.body ≡ [])
@@ -30,7 +30,7 @@ lies-append : (s : Session) (liar : ℕ) (xs ys : List Move) → AreLies s liar 
 lies-append s liar [] ys a b = b
 lies-append s liar (x ∷ xs) ys a b = (a.0, lies-append s liar xs ys a.1 b)
 
--- ---- what is queued is true, or a lie
+-- ---- each queued delivery is true or a lie
 
 lie-is : (me : Member) (b : Bool) (number to : ℕ) (d : Datagram) (body : Body) → me.party < 2 ^ 16 → eqb d.message.from me.party ≡ b
     → IsLie me.session me.party (delivery_by number to (lie_by b me d body))
@@ -108,7 +108,7 @@ module _ (game : Game) (small : game.liar < 2 ^ 16) where
   pub begun-runs : IsRun game (begun game)
   begun-runs = record { world = refl; moves = tt; queue = tt }
 
--- ---- so nothing is forged of the others
+-- ---- so nothing of other parties is forged
 
 pub lies-unforged : (setup : Setup) (trusted : ℕ → Bool) (liar : ℕ) (w : World) (moves : List Move) → trusted liar ≡ false
     → AreLies setup.session liar moves → AreUnforged setup trusted w moves

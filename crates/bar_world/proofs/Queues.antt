@@ -1,13 +1,13 @@
--- The queue grows by the deliveries of what was sent.
+-- The deliveries of what was sent are appended to the queue.
 use Rattle.bar_rules.specs.Member.{Session}
 use Rattle.bar_rules.specs.World.World as plain
 use Rattle.bar_world.specs.declared.moves.Move.{Move}
 use Rattle.bar_world.specs.declared.packet.Packet.{Packet}
 use Rattle.bar_world.specs.Lies.{IsAcceptedIn}
-use Rattle.bar_world.specs.Moves.{plain_move}
+use Rattle.bar_world.specs.Code.Moves.{plain_move}
 use Rattle.bar_world.specs.Network.{Game, delivery, deliveries}
-use Rattle.bar_world.specs.Packets.{packet_of, packets_of}
-use Rattle.bar_world.specs.Playing.{queue_of, AreAcceptedIn}
+use Rattle.bar_world.specs.Code.Packets.{packet_of, packets_of}
+use Rattle.bar_world.specs.Code.Playing.{queue_of, AreAcceptedIn}
 use Rattle.std.proofs.Common.{◌≡◌, ℕ, zero, suc, List, [], ◌∷◌, ◌++◌, ◌+◌, ◌<◌, length, map, drop, get_or, sym, ap, ◌∙◌, subst, append_assoc, arith}
 use Rattle.std.proofs.lemmas.List.{map-append}
 

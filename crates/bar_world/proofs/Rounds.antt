@@ -1,7 +1,7 @@
--- Plays, one step more at their ends.
+-- Plays with one more step at the end.
 use Rattle.bar_rules.specs.World.World.{TickOf}
 use Rattle.bar_world.specs.Network.{Game, Play, moved, served, drained, ticked, tick_played, played_on}
-use Rattle.bar_world.specs.Playing.{HasWords, HasCounts, SameCounts}
+use Rattle.bar_world.specs.Code.Playing.{HasWords, HasCounts, SameCounts}
 use Rattle.rand_chacha.specs.ChaCha.{ChaCha}
 use Rattle.bar_world.specs.declared.network.Network.{Network}
 use Rattle.std.specs.List.{range_with_len}

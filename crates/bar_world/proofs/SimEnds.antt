@@ -1,4 +1,4 @@
--- A simulation's beginning and end.
+-- The beginning and the end of a simulation.
 use Rattle.rand_chacha.specs.ChaCha.{word_at, key_of}
 use Rattle.bar_rules.specs.Broadcaster.Sending.{evicted}
 use Rattle.bar_rules.specs.Broadcaster.Stream.{peers_of}
@@ -9,10 +9,10 @@ use Rattle.bar_laws.specs.OwnRuns.{BroadcasterRuns}
 use Rattle.bar_laws.specs.Parties.{IsCastersLog, after}
 use Rattle.bar_world.specs.declared.network.Network.{Network}
 use Rattle.bar_world.specs.Ends.{caster_log, sim_end}
-use Rattle.bar_world.specs.Kept.{StandsFor}
+use Rattle.bar_world.specs.Code.Kept.{StandsFor}
 use Rattle.bar_world.specs.Lies.{IsLiar}
 use Rattle.bar_world.specs.Network.{begun, played_on}
-use Rattle.bar_world.specs.Playing.{IsPlaying, queue_of}
+use Rattle.bar_world.specs.Code.Playing.{IsPlaying, queue_of}
 use Rattle.bar_world.specs.Sim.{draw, game, setup, sim, source}
 use Rattle.std.proofs.Common.{◌≡◌, ℕ, Bool, List, [], ◌∷◌, ◌+◌, ◌≤◌, length, refl, sym, ap, ◌∙◌, subst, arith}
 use Rattle.std.specs.Prelude.{slice_get, unwrap_or, is_some, filter, count_by}

@@ -1,4 +1,4 @@
--- A world of started cores.
+-- A world whose cores are started.
 use Rattle.std.specs.declared.alloc.Global.{Global}
 use Rattle.bar_seeds.specs.declared.secrets.Secrets.{Secrets}
 use Rattle.bar_roster.specs.declared.key_file.KeyFile.{KeyFile}
@@ -8,16 +8,16 @@ use Rattle.bar_rules.specs.Member.{Member, Session}
 use Rattle.bar_rules.specs.Members.{member_by}
 use Rattle.bar_rules.specs.World.World.{IsSetup, member}
 use Rattle.bar_world.specs.declared.world.World.{World as KeptWorld}
-use Rattle.bar_caster.specs.Core.{caster_rules, face_of as caster_face}
-use Rattle.bar_caster.specs.StandsFor.{StandsFor as CasterTook}
+use Rattle.bar_caster.specs.Code.Core.{caster_rules, face_of as caster_face}
+use Rattle.bar_caster.specs.Code.StandsFor.{StandsFor as CasterTook}
 use Rattle.bar_peer.specs.Core.{peer_rules, face_of as peer_face}
-use Rattle.bar_peer.specs.StandsFor.{StandsFor as PeerTook}
-use Rattle.bar_world.specs.Kept.{StandsFor}
-use Rattle.bar_world.specs.Cores.{IsNewCore}
+use Rattle.bar_peer.specs.Code.StandsFor.{StandsFor as PeerTook}
+use Rattle.bar_world.specs.Code.Kept.{StandsFor}
+use Rattle.bar_world.specs.Code.Cores.{IsNewCore}
 use Rattle.bar_world.specs.Keys.{AreMade, held_in}
-use Rattle.bar_world.specs.Packets.{packets_of}
-use Rattle.bar_world.specs.Setups.{AreOfParties, setup_of}
-use Rattle.bar_world.specs.Texts.{texts}
+use Rattle.bar_world.specs.Code.Packets.{packets_of}
+use Rattle.bar_world.specs.Code.Setups.{AreOfParties, setup_of}
+use Rattle.bar_world.specs.Code.Texts.{texts}
 use Rattle.bar_world.proofs.KeyFiles.{is-key-file, made-at, secrets-at}
 use Rattle.std.proofs.Common.{◌≡◌, ◌<◌, ◌∙◌, ℕ, zero, suc, ◌+◌, true, false, List, [], ◌∷◌, ◌++◌, length, map, refl, sym, ap, subst, inl, inr, arith}
 use Rattle.std.specs.Prelude.{Some, Vec, ◌⊎◌, option_map, remove, replicate, slice_get, slice_index_or, unwrap_or}
@@ -30,7 +30,7 @@ replicate-map [] (suc n) e = absurd (omega (arith, e))
 replicate-map (s ∷ secrets) zero e = absurd (omega (arith, e))
 replicate-map (s ∷ secrets) (suc n) e = ap (λ z. [] ∷ z) (replicate-map secrets n (omega (arith, e)))
 
--- the first of a list is taken
+-- the first element of a list is removed
 taken-first : {X : Type 0} (xs : List X) (x : X) → 0 < length xs → x ≡ slice_index_or xs 0 x → xs ≡ x ∷ remove xs 0
 taken-first [] x h e = absurd (omega (arith, h))
 taken-first (y ∷ xs) x h e = ap (λ z. z ∷ xs) (sym e)
@@ -130,7 +130,7 @@ module _ (session : Session) (keys : List KeyFile) (stream : List ℕ) (made : A
       is-key-file session false key (made-at session.params session.shape.rounds keys (suc i) key made at)
       (peer-held session (held_in keys) stream setup parties i key.secrets (secrets-at keys (suc i) key at))
 
--- ---- one after another
+-- ---- the peers, one after another
 
 push-cases : {X : Type 0} (xs : List X) (x : X) (p : ℕ) (y : X) → slice_get (xs ++ x ∷ []) p ≡ Some y
     → ((p ≡ length xs) × (y ≡ x)) ⊎ (slice_get xs p ≡ Some y)
@@ -158,12 +158,12 @@ started-more {X} {Y} old new x Q keys n next grown long here this before i y k a
         let is : next ≡ k = same_Some next k same in
         subst (λ z. Q z k) (sym h.1) (subst (λ z. Q x z) is this)
 
--- the element where two parts meet
+-- the element after the first part of a list
 at-seam : {X : Type 0} (xs ys : List X) (x : X) → slice_get (xs ++ x ∷ ys) (length xs) ≡ Some x
 at-seam [] ys x = refl
 at-seam (z ∷ xs) ys x = at-seam xs ys x
 
--- the next of what is still to come
+-- the next element is the first of those that are left
 pub next-at : {X : Type 0} (all taken rest left : List X) (x : X) → all ≡ taken ++ rest → rest ≡ x ∷ left
     → slice_get all (length taken) ≡ Some x
 next-at all taken rest left x split next =

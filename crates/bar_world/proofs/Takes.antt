@@ -1,8 +1,8 @@
--- A kept world at one input of one party.
+-- A kept world after one input of one party.
 use Rattle.std.specs.declared.alloc.AllocError.{AllocError}
 use Rattle.std.specs.declared.alloc.Global.{Global}
 use Rattle.bar_wire.specs.Inputs.{Input}
-use Rattle.bar_core.specs.Face.{IsIdle}
+use Rattle.bar_core.specs.Code.Face.{IsIdle}
 use Rattle.bar_core.specs.Rules.{Rules}
 use Rattle.bar_rules.specs.Broadcaster.Sending.{caster_step}
 use Rattle.bar_rules.specs.Peer.Log.{Log}
@@ -11,15 +11,15 @@ use Rattle.bar_rules.specs.Runs.{Outcome, state_after}
 use Rattle.bar_rules.specs.World.World.{Setup, Move, member, party_step, spelled}
 use Rattle.bar_laws.specs.Parties.{after}
 use Rattle.bar_laws.specs.OwnRuns.{inputs_of, input_at, IsOwnRun, PeersRun, BroadcasterRuns}
-use Rattle.bar_caster.specs.Core.{face_of as caster_face}
-use Rattle.bar_caster.specs.StandsFor.{StandsFor as CasterTook}
+use Rattle.bar_caster.specs.Code.Core.{face_of as caster_face}
+use Rattle.bar_caster.specs.Code.StandsFor.{StandsFor as CasterTook}
 use Rattle.bar_peer.specs.Core.{face_of as peer_face}
-use Rattle.bar_peer.specs.StandsFor.{StandsFor as PeerTook}
+use Rattle.bar_peer.specs.Code.StandsFor.{StandsFor as PeerTook}
 use Rattle.bar_world.specs.declared.world.World.{World as KeptWorld}
-use Rattle.bar_world.specs.Cores.{Fed}
-use Rattle.bar_world.specs.Given.{Gives}
-use Rattle.bar_world.specs.Kept.{CasterRan, IsReady, PeerRan, StandsFor}
-use Rattle.bar_world.specs.Packets.{packets_of}
+use Rattle.bar_world.specs.Code.Cores.{Fed}
+use Rattle.bar_world.specs.Code.Given.{Gives}
+use Rattle.bar_world.specs.Code.Kept.{CasterRan, IsReady, PeerRan, StandsFor}
+use Rattle.bar_world.specs.Code.Packets.{packets_of}
 use Rattle.bar_world.proofs.Silent.{step-silent}
 use Rattle.bar_world.proofs.Worlds.{others-took, others-get-nothing, own-took, packets-more, played-more}
 use Rattle.std.proofs.Common.{◌≡◌, ◌<◌, ◌∙◌, ℕ, zero, suc, ◌+◌, false, List, [], ◌∷◌, ◌++◌, eqb, cond, length, refl, sym, ap, subst, inl, inr, arith}
@@ -169,7 +169,7 @@ peer-ready old new i next peers_are idle caster_stays many texts room ready = re
     peers q peer (inl h) = subst (λ p. IsIdle (peer_face p.memory p.orders p.playing)) (sym h.1) idle
     peers q peer (inr h) = ready.peers q peer h.1
 
--- ---- where the call succeeded
+-- ---- if the call succeeds
 
 pub on-ok : {P Q : Type 0} (r : Result (Unit {0}) AllocError) → (P → Q) → OnOk r P → OnOk r Q
 on-ok (Ok u) f p = f p

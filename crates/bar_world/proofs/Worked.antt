@@ -1,4 +1,4 @@
--- Worked examples, computed by the definitions: what becomes of an entry by the number drawn, and a key that is lied about.
+-- Examples, computed by the definitions: how drawn numbers decide an entry of the queue, and the lie about a key.
 use Rattle.bar_window.specs.declared.exchange.Role.TheVariants.{Initiator}
 use Rattle.bar_window.specs.declared.exchange.XKind.TheVariants.{Push}
 use Rattle.bar_wire.specs.Datagram.{Datagram, Body, Key, KeyReq, KeyGiven}
@@ -9,11 +9,11 @@ use Rattle.bar_world.specs.Network.{Game, Play, moved, other_key, lie_of, lie_in
 use Rattle.bar_world.specs.Sim.{setup, secrets, secret_of}
 use Rattle.std.proofs.Common.{◌≡◌, ℕ, [], ◌∷◌, ◌+◌, Some, None, refl}
 
--- a network in which this number is drawn each time
+-- a game in which this number is drawn each time
 abbrev drawing : Game → ℕ → Game
 drawing game number = record game { drawn = λ k. number }
 
--- the first entry of this queue is taken, and a number drawn
+-- the first entry of this queue is removed, and a number is drawn
 abbrev queued : Play → Play
 queued play = record play { queue = Deliver 3 ∷ Deliver 5 ∷ [] }
 
@@ -37,7 +37,7 @@ twice : (game : Game) (play : Play)
     (moved (drawing game 41) (record (taken play) { delivered = play.delivered + 1; repeated = play.repeated + 1 }) (Deliver 3)) (Deliver 3)
 twice game play = refl
 
--- an empty queue draws nothing
+-- if the queue is empty, nothing is drawn
 nothing-waits : (game : Game) (play : Play) → served game (record play { queue = [] }) ≡ record play { queue = [] }
 nothing-waits game play = refl
 
@@ -49,7 +49,7 @@ even = refl
 odd : other_key (0xff ∷ 7 ∷ []) ≡ 0xfe ∷ 7 ∷ []
 odd = refl
 
--- a datagram of this party to party 2, and what party 5 lies in place of it
+-- a datagram from a party to party 2, and what is delivered in its place if party 5 lies
 abbrev from : ℕ → Body → Datagram
 from party body = record { message = record { from = party; to = 2; body = body }; signature = [] }
 

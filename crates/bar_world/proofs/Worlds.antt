@@ -1,8 +1,8 @@
--- Worlds, one move more.
+-- Worlds with one more move.
 use Rattle.std.specs.declared.alloc.Global.{Global}
 use Rattle.bar_wire.specs.Inputs.{Input}
 use Rattle.bar_wire.specs.Inputs as event
-use Rattle.bar_core.specs.Face.{Face}
+use Rattle.bar_core.specs.Code.Face.{Face}
 use Rattle.bar_core.specs.Rules.{Rules, Send}
 use Rattle.bar_rules.specs.Peer.Log.{Log}
 use Rattle.bar_rules.specs.Runs.{Outcome, state_after}
@@ -10,9 +10,9 @@ use Rattle.bar_rules.specs.World.World.{Setup, World, Move, TickOf, Deliver, Hos
 use Rattle.bar_laws.specs.Parties.{after}
 use Rattle.bar_laws.specs.OwnRuns.{inputs_of, input_at, IsOwnRun}
 use Rattle.bar_laws.proofs.Worlds.{inputs-on, run-on}
-use Rattle.bar_world.specs.Cores.{IsCoreOf}
-use Rattle.bar_world.specs.Given.{Gives}
-use Rattle.bar_world.specs.Texts.{texts}
+use Rattle.bar_world.specs.Code.Cores.{IsCoreOf}
+use Rattle.bar_world.specs.Code.Given.{Gives}
+use Rattle.bar_world.specs.Code.Texts.{texts}
 use Rattle.std.proofs.Common.{◌≡◌, ◌≤◌, ◌∙◌, ℕ, zero, suc, false, List, [], ◌∷◌, ◌++◌, eqb, cond, length, map, refl, sym, ap, subst, append-nil, arith}
 use Rattle.std.specs.Prelude.{Vec, Option, Some, None, slice_get, slice_set, unwrap_or, option_map}
 use Rattle.std.specs.List.{concat}
@@ -33,7 +33,7 @@ past [] p h = refl
 past (x ∷ xs) zero h = absurd (omega (arith, h))
 past (x ∷ xs) (suc p) h = past xs p (omega (arith, h))
 
--- ---- one move more
+-- ---- one more move
 
 pub after-more : (setup : Setup) (moves : List Move) (m : Move) → after setup (moves ++ m ∷ []) ≡ happens setup (after setup moves) m
 after-more setup moves m = run-on setup (initial setup) moves (m ∷ [])
@@ -44,7 +44,7 @@ inputs-more setup moves m p =
     inputs-on setup (initial setup) p moves (m ∷ [])
     ∙ ap (λ rest. inputs_of setup moves p ++ rest) (append-nil (input_at (after setup moves) p m))
 
--- ---- how many logs there are
+-- ---- the number of logs
 
 takes-count : (setup : Setup) (w : World) (p : ℕ) (input : Input) → length (takes setup w p input).logs ≡ length w.logs
 takes-count setup w p input = go (slice_get w.logs p)
@@ -69,16 +69,16 @@ run-count setup w (m ∷ moves) = run-count setup (happens setup w m) moves ∙ 
 pub logs-count : (setup : Setup) (moves : List Move) → length (after setup moves).logs ≡ length setup.secrets
 logs-count setup moves = run-count setup (initial setup) moves ∙ length-map setup.secrets (λ s. [])
 
--- ---- a move that gives nothing
+-- ---- a move that gives no input
 
--- a party that isn't there
+-- a party that doesn't exist
 pub nobody-takes : (setup : Setup) (moves : List Move) (m : Move) (p : ℕ) (input : Input) → Gives setup (after setup moves) m p input
     → length setup.secrets ≤ p → happens setup (after setup moves) m ≡ after setup moves
 nobody-takes setup moves m p input gives far =
     let none : slice_get (after setup moves).logs p ≡ None = past _ p (subst (λ n. n ≤ p) (sym (logs-count setup moves)) far) in
     gives.next ∙ ap (λ o. takes_by setup (after setup moves) p input o) none
 
--- what a core of another party took
+-- the core of another party took no further input
 pub others-took : (setup : Setup) (moves : List Move) (m : Move) (q : ℕ) (rules : Rules) (stands : List Input → Type 0) (face : Face)
     → input_at (after setup moves) q m ≡ [] → IsCoreOf rules (inputs_of setup moves q) stands face
     → IsCoreOf rules (inputs_of setup (moves ++ m ∷ []) q) stands face
@@ -92,7 +92,7 @@ others-took setup moves m q rules stands face none core = record {
 
 -- ---- a move that gives a party an input
 
--- the world after a party's step
+-- the world after a step of a party
 abbrev stepped : Setup → World → ℕ → Outcome Log → World
 stepped setup w p out =
     record {
@@ -138,7 +138,7 @@ module _ (setup : Setup) (moves : List Move) (m : Move) (p : ℕ) (input : Input
       (sym here)
       ∙ ap (λ (w : World). w.played) (sym stepped-so)
 
-  -- what its core took
+  -- the party's core took the input
   pub own-took : (rules : Rules) (was now : List Input → Type 0) (old new : Face) → IsCoreOf rules (inputs_of setup moves p) was old
       → new.rules ≡ old.rules → ((before : List Input) → was before → now (before ++ input ∷ []))
       → IsCoreOf rules (inputs_of setup (moves ++ m ∷ []) p) now new
@@ -151,6 +151,6 @@ module _ (setup : Setup) (moves : List Move) (m : Move) (p : ℕ) (input : Input
         (stands (inputs_of setup moves p) core.took);
   }
 
-  -- to any other party it gives nothing
+  -- no other party is given an input
   pub others-get-nothing : (q : ℕ) → eqb p q ≡ false → input_at (after setup moves) q m ≡ []
   others-get-nothing q other = gives.inputs q ∙ ap (λ b. cond b (input ∷ []) []) other

@@ -1,4 +1,4 @@
--- What a simulation ends with.
+-- The result of a simulation.
 use Rattle.std.specs.Prelude.{ℕ, List, [], map, length, unwrap_or, slice_get}
 use Rattle.std.specs.List.{range_with_len}
 use Rattle.bar_rules.specs.Broadcaster.Sending.{evicted}
@@ -7,8 +7,8 @@ use Rattle.bar_rules.specs.World.World.{World}
 use Rattle.bar_world.specs.Network.{Play}
 use Rattle.bar_world.specs.Sim.{setup, sim}
 
--- How many bytes each of peers 1 to 5 has played, how many entries of the queue were delivered, how many were lost and how many of those
--- delivered came twice, and which peers the broadcaster has evicted.
+-- How many bytes each of peers 1 to 5 played; how many entries of the queue were delivered, how many were lost, and how many were delivered
+-- twice; and which peers the broadcaster evicted.
 pub record End : Type 0 where
   pub played : List ℕ
   pub delivered : ℕ

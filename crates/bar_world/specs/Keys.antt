@@ -7,7 +7,7 @@ use Rattle.bar_seeds.specs.Seeds.{anchor_of}
 use Rattle.bar_roster.specs.declared.key_file.KeyFile.{KeyFile}
 use Rattle.bar_world.specs.Made.{signing}
 
--- what a party makes of its secrets: its signing key under these types, and its seeds over so many rounds
+-- what a party derives from its secrets: its signing key with these types, and its seeds over `rounds` rounds
 abbrev pub key_by : Params → ℕ → Secrets → KeyFile
 key_by params rounds held = record {
   secrets = held;
@@ -29,6 +29,6 @@ anchor_in key = anchor_of key.chain.secrets key.chain.rounds
 abbrev pub held_in : List KeyFile → List Secrets
 held_in keys = map (λ (key : KeyFile). key.secrets) keys
 
--- Each of the key files is made of the secrets in it.
+-- Each of the key files is made from the secrets in it.
 abbrev pub AreMade : Params → ℕ → List KeyFile → Type 0
 AreMade params rounds keys = keys ≡ keys_by params rounds (held_in keys)

@@ -3,15 +3,6 @@ pub mod Network
 pub mod Sim
 pub mod Ends
 pub mod Laws
-pub mod Packets
-pub mod Texts
-pub mod Cores
-pub mod Setups
-pub mod Moves
-pub mod Given
-pub mod Kept
-pub mod Held
+pub mod Code
 pub mod Keys
 pub mod Lies
-pub mod Playing
-pub mod Shown

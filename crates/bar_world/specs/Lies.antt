@@ -1,4 +1,4 @@
--- Who lies, and what is asked of the datagrams that it lies about.
+-- The liar, and what is required of the datagrams that it lies about.
 use Rattle.std.specs.Prelude.{◌≡◌, ℕ, ◌^◌, ◌<◌, ◌≤◌, List, length, true, Some, None}
 use Rattle.bar_lms.specs.Params.{levels}
 use Rattle.bar_lms.specs.Signature.{number_at}
@@ -15,12 +15,12 @@ pub record IsLiar (me : Member) (liar : Liar) : Type 0 where
   pub single_is : me.session.top ≡ None
   pub signer_is : signing_secret me.session me.secret ≡ liar.signer
 
--- what the bytes spell, if it is signed, is accepted under its sender's key
+-- if the bytes encode a signed datagram, its signature is accepted under its sender's key
 abbrev pub IsAcceptedIn : Session → List ℕ → Type 0
 IsAcceptedIn s bytes =
     (d : Datagram) → datagram_of s bytes ≡ Some d → is_signed d.message.body ≡ true → is_signed_by s d ≡ true
 
--- it is a KEY, of whole bytes
+-- the body is a KEY whose key has 32 bytes
 abbrev pub IsKeyBody : Body → Type 0
 IsKeyBody (Key k) = length k.key ≡ 32
 IsKeyBody _ = ⊥
@@ -30,6 +30,6 @@ pub record HasLeaf (s : Session) (d : Datagram) : Type 0 where
   pub long : 4 ≤ length d.signature
   pub leaf : number_at d.signature 0 < 2 ^ levels s.params.height
 
--- so it does where the datagram is signed
+-- this holds if the datagram is signed
 abbrev pub HasLeafIfSigned : Session → Datagram → Type 0
 HasLeafIfSigned s d = is_signed d.message.body ≡ true → HasLeaf s d

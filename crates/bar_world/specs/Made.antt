@@ -1,4 +1,4 @@
--- A setup that is made from its parties' secrets: its session holds the keys and anchors that come from them.
+-- A setup made from its parties' secrets: its session contains the keys and anchors derived from them.
 use Rattle.std.specs.Prelude.{◌≡◌, ℕ, ◌+◌, ◌*◌, ◌^◌, ◌≤◌, List, [], ◌∷◌, map}
 use Rattle.bar_window.specs.Limits.{most_items}
 use Rattle.bar_lms.specs.declared.params.Params.{Params}
@@ -19,7 +19,7 @@ use Rattle.bar_world.specs.declared.numbers.Numbers.{Numbers}
 abbrev pub signing : Params → List ℕ → List ℕ → Secret
 signing params id secret = record { params = params; id = id; secret = secret }
 
--- the public keys of the parties of these secrets, the broadcaster's first
+-- the public keys of the parties with these secrets, the broadcaster's first
 abbrev pub keys_of : Params → List ℕ → List (List ℕ) → List (List ℕ)
 keys_of params id secrets = map (λ secret. public_key (signing params id secret)) secrets
 
@@ -28,7 +28,7 @@ keys_of params id secrets = map (λ secret. public_key (signing params id secret
 abbrev pub seeding : List ℕ → ℕ → List ℕ → Secrets
 seeding id party secret = record { id = id; party = party; secret = secret }
 
--- the anchors of the parties from this one on, whose secrets these are
+-- the anchors of consecutive parties, starting with `party`, that have these secrets
 abbrev pub anchors_from : List ℕ → ℕ → ℕ → List (List ℕ) → List (List ℕ)
 anchors_from id rounds party [] = []
 anchors_from id rounds party (secret ∷ secrets) =
@@ -39,13 +39,13 @@ abbrev pub of_peers : List (List ℕ) → List (List ℕ)
 of_peers [] = []
 of_peers (secret ∷ secrets) = secrets
 
--- the broadcaster, party 0, has none
+-- the broadcaster, party 0, has no anchor
 abbrev pub anchors_of : List ℕ → ℕ → List (List ℕ) → List (List ℕ)
 anchors_of id rounds secrets = anchors_from id rounds 1 (of_peers secrets)
 
 -- ---- the setup
 
--- The numbers are in the ranges of a session's, and there are enough leaves.
+-- The numbers are in the ranges of a session's numbers, and there are enough leaves.
 pub record AreNumbers (shape : Shape) (n : Numbers) : Type 0 where
   pub shape_is : IsSessionShape shape
   pub signatures : shape.sig_len ≡ signature_len n.params

@@ -1,4 +1,4 @@
--- A network that loses, repeats and delays by drawn numbers, and one party that lies in the keys it gives.
+-- A network that loses, repeats and delays datagrams by drawn numbers, and one party that lies in the keys that it gives.
 use Rattle.std.specs.Prelude.{ℕ, zero, suc, ◌+◌, ◌%◌, ◌==◌, Bool, true, List, [], ◌∷◌, ◌++◌, length, drop, Option, Some, None, slice_index}
 use Rattle.std.specs.Prelude.{slice_set, bit_xor, if◌then◌else◌}
 use Rattle.std.specs.List.{range_with_len}
@@ -9,13 +9,13 @@ use Rattle.bar_rules.specs.Values.{datagram_of, datagram_bytes, message_bytes}
 use Rattle.bar_rules.specs.Secrets.{signature_of}
 use Rattle.bar_rules.specs.World.World.{Setup, World, Move, TickOf, Deliver, Hostile, member, initial, happens}
 
--- what is given: the parties with their secrets, the one that lies, and the numbers that are drawn, in order
+-- what is given: the parties with their secrets, the liar, and the drawn numbers in order
 pub record Game : Type 0 where
   pub setup : Setup
   pub liar : ℕ
   pub drawn : ℕ → ℕ
 
--- The world so far with the moves that led to it, the queue of deliveries, how many numbers were drawn, and what is counted.
+-- The world so far with the moves that led to it, the queue of deliveries, how many numbers were drawn, and the counts of deliveries.
 pub record Play : Type 0 where
   pub world : World
   pub moves : List Move
@@ -34,14 +34,14 @@ other_key key = slice_set key 0 (bit_xor (slice_index key 0) 1)
 abbrev pub lying : Message → KeyGiven → Message
 lying m k = record { from = m.from; to = m.to; body = Key (record k { key = other_key k.key }) }
 
--- A datagram with that key, signed by this member with the leaf of the true one. The leaf fixes the randomizer.
+-- A datagram with that key, signed by this member with the leaf of the true one. The leaf determines the randomizer.
 abbrev pub lie_of : Member → Datagram → KeyGiven → Datagram
 lie_of me d k = record {
   message = lying d.message k;
   signature = signature_of me (number_at d.signature 0) (message_bytes me.session (lying d.message k));
 }
 
--- what is delivered in place of a KEY of this member, and of nothing else
+-- what is delivered in place of a KEY of this member; nothing for other bodies
 abbrev pub lie_by : Bool → Member → Datagram → Body → Option (List ℕ)
 lie_by true me d (Key k) = Some (datagram_bytes me.session (lie_of me d k))
 lie_by _ me d _ = None
@@ -56,17 +56,17 @@ abbrev pub delivery_by : ℕ → ℕ → Option (List ℕ) → Move
 delivery_by number to None = Deliver number
 delivery_by number to (Some bytes) = Hostile to bytes
 
--- How a packet of this number is delivered. A KEY names its sender, so those that name the liar are those that its core sends.
+-- How the packet with this number is delivered. A KEY names its sender, so the KEYs that name the liar are those that its core sends.
 abbrev pub delivery : Game → ℕ → ℕ × List ℕ → Move
 delivery game number packet =
     delivery_by number packet.0 (lie_in (member game.setup game.liar) (datagram_of game.setup.session packet.1))
 
--- how packets that are numbered from this one on are delivered
+-- how packets are delivered that have consecutive numbers starting with `number`
 abbrev pub deliveries : Game → ℕ → List (ℕ × List ℕ) → List Move
 deliveries game number [] = []
 deliveries game number (packet ∷ packets) = delivery game number packet ∷ deliveries game (number + 1) packets
 
--- a move happens, and what is sent at it is put at the queue's end
+-- a move happens, and the deliveries of what it sends are appended to the queue
 unfoldable pub moved : Game → Play → Move → Play
 moved game play m =
     let next : World = happens game.setup play.world m in
@@ -77,7 +77,7 @@ moved game play m =
       queue = play.queue ++ deliveries game (length play.world.packets) sent;
     }
 
--- ---- what becomes of the queue's first entry, by the number drawn
+-- ---- the first entry of the queue is decided by the drawn number
 
 abbrev pub lost_one : Play → Play
 lost_one play = record play { lost = play.lost + 1 }
@@ -95,11 +95,11 @@ decided game play m number =
     else if number % 10 == 1 then delivered_twice game play m
     else delivered_once game play m
 
--- the queue is this, and one more number was drawn
+-- the queue is this one, and one more number was drawn
 abbrev pub drew : Play → List Move → Play
 drew play queue = record play { queue = queue; draws = play.draws + 1 }
 
--- the first entry is taken and a number drawn, where the queue isn't empty
+-- if the queue isn't empty, its first entry is removed and a number is drawn
 abbrev pub served_by : Game → Play → List Move → Play
 served_by game play [] = play
 served_by game play (m ∷ queue) = decided game (drew play queue) m (game.drawn play.draws)
@@ -107,23 +107,23 @@ served_by game play (m ∷ queue) = decided game (drew play queue) m (game.drawn
 abbrev pub served : Game → Play → Play
 served game play = served_by game play play.queue
 
--- at most so many entries
+-- at most `n` entries are served
 unfoldable pub drained : Game → ℕ → Play → Play
 drained game zero play = play
 drained game (suc n) play = drained game n (served game play)
 
 -- ---- ticks
 
--- these parties tick, in order
+-- each of these parties takes a tick, in order
 unfoldable pub ticked : Game → List ℕ → Play → Play
 ticked game [] play = play
 ticked game (party ∷ parties) play = ticked game parties (moved game play (TickOf party))
 
--- one tick of all parties, and then at most so many entries
+-- one tick of all parties, and then at most `most` entries are served
 abbrev pub tick_played : Game → ℕ → Play → Play
 tick_played game most play = drained game most (ticked game (range_with_len 0 (game.setup.session.shape.peers + 1)) play)
 
--- so many ticks
+-- `n` ticks of all parties
 unfoldable pub played_on : Game → ℕ → ℕ → Play → Play
 played_on game most zero play = play
 played_on game most (suc n) play = played_on game most n (tick_played game most play)

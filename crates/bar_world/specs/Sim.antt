@@ -1,4 +1,4 @@
--- The simulation of a seed: its numbers, its secrets, its stream, its draws, and the play.
+-- The simulation of a seed: its parameters, secrets, stream, draws, and the play.
 use Rattle.std.specs.Prelude.{◌≡◌, ℕ, ◌+◌, true, List, ◌++◌, map, codes, refl}
 use Rattle.std.specs.List.{range_with_len}
 use Rattle.sha2.specs.Sha256.{sha256}
@@ -21,7 +21,7 @@ use Rattle.bar_world.specs.Network.{Game, Play, begun, played_on}
 abbrev pub numbers : Numbers
 numbers = record { cap = 4; fanout = 2; port = 1024; tick_ms = 1; params = record { height = H10; ots = W4 } }
 
--- the eight bytes of a seed are an id, and four rounds the life of an update
+-- the eight bytes of a seed are an id, and four rounds are a valid life of updates
 pub seed_is_shaped : (seed : ℕ) → is_shaped (u64_bytes seed) 4 ≡ true
 unfolding u64_bytes
 seed_is_shaped seed = refl
@@ -42,11 +42,11 @@ shape seed = record {
 unfoldable pub secret_of : ℕ → ℕ → List ℕ
 secret_of seed party = sha256 (codes "SIMS" ++ u64_bytes seed ++ u16_bytes party)
 
--- the broadcaster's and those of five peers
+-- the secrets of the broadcaster and of five peers
 abbrev pub secrets : ℕ → List (List ℕ)
 secrets seed = map (secret_of seed) (range_with_len 0 6)
 
--- the key of the ChaCha20 words that the stream and the draws are taken from
+-- the key of the ChaCha20 words for the stream and the draws
 unfoldable pub source : ℕ → List ℕ
 source seed = sha256 (codes "SIMW" ++ u64_bytes seed)
 
@@ -59,14 +59,14 @@ setup seed = made_setup (shape seed) numbers (secrets seed) (stream seed)
 
 -- ---- the play
 
--- the words behind those of the stream
+-- the words after those of the stream
 unfoldable pub draw : ℕ → ℕ → ℕ
 draw seed number = word_at 10 (key_of (source seed)) 0 (20440 + number)
 
--- peer 5 lies
+-- peer 5 is the liar
 abbrev pub game : ℕ → Game
 game seed = record { setup = setup seed; liar = 5; drawn = draw seed }
 
--- 120 ticks, and at most 4,096 entries of the queue after each
+-- 120 ticks, and after each at most 4,096 entries of the queue are served
 unfoldable pub sim : ℕ → Play
 sim seed = played_on (game seed) 4096 120 (begun (game seed))

@@ -1,19 +1,19 @@
-//! One input of one core.
+//! How one core takes one input.
 ghost use Rattle.std.specs.Prelude.{◌≡◌, ◌≤◌, ◌++◌, [], List, length, OnOk};
 ghost use Rattle.std.specs.List.{concat};
 ghost use Rattle.bar_wire.specs.Inputs as plain;
 ghost use Rattle.bar_wire.specs.Limits.{largest_content, largest_datagram};
-ghost use Rattle.bar_core.specs.Face.{IsIdle, Keeps};
+ghost use Rattle.bar_core.specs.Code.Face.{IsIdle, Keeps};
 ghost use Rattle.bar_core.specs.Rules.{Send};
-ghost use Rattle.bar_world.specs.Cores.{Fed};
-ghost use Rattle.bar_world.specs.Packets.{packets_of};
+ghost use Rattle.bar_world.specs.Code.Cores.{Fed};
+ghost use Rattle.bar_world.specs.Code.Packets.{packets_of};
 
 use crate::packet::Packet;
 use bar_core::Core;
 use bar_wire::Input;
 use std::alloc::{AllocError, Global};
 
-/// Puts the contents that a core has still to give out behind what it played before.
+/// Appends the contents that a core has still to give out to what it played before.
 pub(crate) fn play_all<C: Core>(
     core: &mut C,
     buf: &mut [u8],
@@ -33,7 +33,7 @@ pub(crate) fn play_all<C: Core>(
     Ok(())
 }
 
-/// Puts the datagrams that a core has still to give out behind those that were sent before.
+/// Appends the datagrams that a core has still to give out to those that were sent before.
 pub(crate) fn send_all<C: Core>(
     alloc: Global,
     core: &mut C,
@@ -55,7 +55,7 @@ pub(crate) fn send_all<C: Core>(
     Ok(())
 }
 
-/// A core takes one input: what it sends goes into the pool, and what it plays goes behind what it played before.
+/// A core takes one input. What it sends is appended to the pool, and what it plays to what it played before.
 pub(crate) fn feed<C: Core>(
     alloc: Global,
     core: &mut C,

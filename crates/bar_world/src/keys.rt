@@ -7,7 +7,7 @@ use bar_roster::KeyFile;
 use bar_seeds::{Secrets, SeedChain};
 use std::alloc::{AllocError, Global};
 
-/// The key file of a party, whose seeds are for so many rounds.
+/// The key file of a party, with seeds for `rounds` rounds.
 fn key_of(
     alloc: Global,
     params: Params,
@@ -25,7 +25,7 @@ fn key_of(
     })
 }
 
-/// The key files of parties, in the order of their secrets. This is what costs most in a simulation.
+/// The key files of parties, in the order of their secrets. This is the most expensive part of a simulation.
 pub fn keys_of(
     alloc: Global,
     params: Params,

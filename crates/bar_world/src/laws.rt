@@ -1,18 +1,18 @@
-//! What holds of the simulation of every seed, over the definitions alone.
+//! Theorems about the simulation of every seed, stated over the definitions alone.
 
 ghost use Rattle.bar_world.specs.Laws.{SimsAreSetups, SimsAreRuns, SimsForgeNothing, HonestPeersStay};
 
 use bar_laws::own_runs::parties_run_alone;
 use bar_laws::parties::nobody_is_evicted;
 
-/// The simulation of a seed is a run of a session in which a network delivers, loses and repeats, and nothing is forged of parties 0 to 4.
+/// The simulation of a seed is a run of a session over a network that delivers, loses and repeats, and nothing is forged of parties 0 to 4.
 pub fn simulations_are_fair()
     ensures setup { SimsAreSetups }
     ensures run { SimsAreRuns }
     ensures unforged { SimsForgeNothing }
 {}
 
-/// Whatever the seed, none of peers 1 to 4 is evicted.
+/// For every seed, none of peers 1 to 4 is evicted.
 pub fn honest_peers_stay()
     ensures { HonestPeersStay }
 {

@@ -1,15 +1,15 @@
-//! A party that lies in the keys it gives.
+//! A party that lies in the keys that it gives.
 ghost use Rattle.std.specs.Prelude.{◌≡◌, ◌^◌, ◌<◌, ◌++◌, length, MatchOption, IfOk, option_map};
 ghost use Rattle.bar_lms.specs.Params.{levels};
 ghost use Rattle.bar_lms.specs.Secret.{signed};
 ghost use Rattle.bar_lms.specs.Signature.{number_at};
 ghost use Rattle.bar_wire.specs.Grammar.{message_bytes};
 ghost use Rattle.bar_wire.specs.Places.{datagram_of};
-ghost use Rattle.bar_wire.specs.Views.{IsBody, plain, datagram};
+ghost use Rattle.bar_wire.specs.Code.Views.{IsBody, plain, datagram};
 ghost use Rattle.bar_rules.specs.Member.{Member};
 ghost use Rattle.bar_world.specs.Network.{other_key, lie_in, delivery_by};
 ghost use Rattle.bar_world.specs.Lies.{IsLiar, HasLeafIfSigned, IsAcceptedIn, IsKeyBody};
-ghost use Rattle.bar_world.specs.Moves.{plain_move};
+ghost use Rattle.bar_world.specs.Code.Moves.{plain_move};
 
 use crate::moves::Move;
 use crate::packet::Packet;
@@ -18,7 +18,7 @@ use bar_seal::leaf_in;
 use bar_wire::{Body, Shape, View, decode, encode};
 use std::alloc::{AllocError, Global};
 
-/// A party of a session that lies in the keys it gives, and what signs for it.
+/// A party of a session that lies in the keys that it gives, with its signing key.
 #[derive(Drop)]
 pub(crate) struct Liar {
     pub party: u16,
@@ -35,7 +35,7 @@ fn other_key(key: &[u8; 32]) -> [u8; 32]
     other
 }
 
-/// The number of the leaf that a signature names, where it is long enough to name one.
+/// The number of the leaf that a signature names, or `None` if the signature is too short.
 fn named_leaf(sig: &[u8]) -> Option<u32>
     ensures { MatchOption result (length sig.now < 4) (λ leaf. leaf ≡ number_at sig.now 0) }
 {
@@ -49,7 +49,7 @@ fn named_leaf(sig: &[u8]) -> Option<u32>
 const KEY_LEN: usize = 54;
 
 impl Liar {
-    /// A KEY that is signed with a leaf.
+    /// A KEY signed with a leaf.
     #[tactic(auto, using(crate::proofs::KeyLengths::key_message_length))]
     fn signed_key(
         &self,
@@ -75,8 +75,8 @@ impl Liar {
         Ok(bytes)
     }
 
-    /// What is delivered in place of a KEY of the liar, and of nothing else. A signature that names no leaf is passed over: no core sends
-    /// one.
+    /// What is delivered in place of a KEY of the liar; `None` for any other datagram. A signature that names no leaf gives `None` too: no
+    /// core sends one.
     #[tactic(auto, using(crate::proofs::Leaves::liar_signs))]
     fn lie_about(&self, alloc: Global, view: &View<'_>) -> Result<Option<Vec<u8>>, AllocError>
         requires { IsBody self.now.shape view.now.body }
@@ -115,7 +115,7 @@ impl Liar {
         Ok(Some(bytes))
     }
 
-    /// How the datagram that stands in the pool at a number is delivered.
+    /// How the datagram with a number in the pool is delivered.
     pub(crate) fn delivery(
         &self,
         alloc: Global,

@@ -5,15 +5,15 @@ ghost use Rattle.bar_roster.specs.declared.key_file.KeyFile.{KeyFile as Key};
 ghost use Rattle.bar_roster.specs.KeyFile.{IsKeyFileOf};
 ghost use Rattle.bar_rules.specs.Members.{member_by};
 ghost use Rattle.bar_rules.specs.World.World.{IsSetup};
-ghost use Rattle.bar_caster.specs.Core.{caster_rules, face_of as caster_face};
-ghost use Rattle.bar_caster.specs.StandsFor.{StandsFor as CasterTook};
+ghost use Rattle.bar_caster.specs.Code.Core.{caster_rules, face_of as caster_face};
+ghost use Rattle.bar_caster.specs.Code.StandsFor.{StandsFor as CasterTook};
 ghost use Rattle.bar_peer.specs.Core.{peer_rules, face_of as peer_face};
-ghost use Rattle.bar_peer.specs.StandsFor.{StandsFor as PeerTook};
-ghost use Rattle.bar_world.specs.Cores.{IsNewCore};
+ghost use Rattle.bar_peer.specs.Code.StandsFor.{StandsFor as PeerTook};
+ghost use Rattle.bar_world.specs.Code.Cores.{IsNewCore};
 ghost use Rattle.bar_world.specs.Keys.{AreMade, held_in};
-ghost use Rattle.bar_world.specs.Setups.{AreOfParties, setup_of};
-ghost use Rattle.bar_world.specs.Kept.{IsReady, StandsFor};
-ghost use Rattle.bar_world.specs.Texts.{texts};
+ghost use Rattle.bar_world.specs.Code.Setups.{AreOfParties, setup_of};
+ghost use Rattle.bar_world.specs.Code.Kept.{IsReady, StandsFor};
+ghost use Rattle.bar_world.specs.Code.Texts.{texts};
 
 use crate::keys::keys_of;
 use crate::world::World;
@@ -25,7 +25,7 @@ use bar_seeds::Secrets;
 use bar_wire::LARGEST_DATAGRAM;
 use std::alloc::{AllocError, Global};
 
-/// The broadcaster of a session, which took nothing yet.
+/// The broadcaster of a session, before any input.
 fn start_caster(
     alloc: Global,
     session: &Session,
@@ -42,7 +42,7 @@ fn start_caster(
     Caster::of_key(alloc, session.copied(alloc)?, key, stream).map_err(|_| AllocError)
 }
 
-/// A peer of a session, which took nothing yet.
+/// A peer of a session, before any input.
 fn start_peer(
     alloc: Global,
     session: &Session,
@@ -76,7 +76,7 @@ fn start_peers(
     Ok(peers)
 }
 
-/// So many empty texts.
+/// A list of `count` empty byte lists.
 fn empty_texts(alloc: Global, count: usize) -> Result<Vec<Vec<u8>>, AllocError>
     ensures { IfOk result (λ list. texts list.items ≡ replicate count []) }
 {
@@ -88,8 +88,8 @@ fn empty_texts(alloc: Global, count: usize) -> Result<Vec<Vec<u8>>, AllocError>
 }
 
 impl World {
-    /// The world of a session whose signatures have one level, before the first move: the parties of these secrets, the broadcaster's
-    /// first, and its stream. All their memory is taken here.
+    /// The world of a session whose signatures have one level, before the first move. It contains the parties of these secrets, the
+    /// broadcaster's first, and its stream. All the parties' memory is allocated here.
     pub fn make(
         alloc: Global,
         session: &Session,
@@ -107,7 +107,7 @@ impl World {
         World::of_keys(alloc, session, keys, stream)
     }
 
-    /// The same world, where the parties' key files are made, the broadcaster's first.
+    /// The same world, made from the parties' key files, the broadcaster's first.
     pub(crate) fn of_keys(
         alloc: Global,
         session: &Session,

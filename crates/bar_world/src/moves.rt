@@ -1,10 +1,10 @@
-/// What may happen next in a world.
+/// A move: what may happen next in a world.
 #[derive(Drop)]
 pub enum Move {
-    /// A party's time goes on by one tick.
+    /// A party takes a tick.
     TickOf(u16),
-    /// A datagram of the pool reaches its receiver.
+    /// A datagram of the pool arrives at its receiver.
     Deliver(u64),
-    /// Any bytes reach a party.
+    /// Arbitrary bytes arrive at a party.
     Hostile { to: u16, bytes: Vec<u8> },
 }

@@ -1,12 +1,12 @@
-//! Moves.
+//! How a move changes a world.
 ghost use Rattle.std.specs.Prelude.{◌+◌, ◌<◌, ◌++◌, ◌∷◌, [], List, length, map, OnOk};
 ghost use Rattle.bar_wire.specs.Inputs.{plain_input};
 ghost use Rattle.bar_rules.specs.World.World.{Setup};
 ghost use Rattle.bar_rules.specs.World.World as plain;
 ghost use Rattle.bar_laws.specs.Parties.{after};
-ghost use Rattle.bar_world.specs.Kept.{IsReady, StandsFor};
-ghost use Rattle.bar_world.specs.Given.{Gives};
-ghost use Rattle.bar_world.specs.Moves.{plain_move};
+ghost use Rattle.bar_world.specs.Code.Kept.{IsReady, StandsFor};
+ghost use Rattle.bar_world.specs.Code.Given.{Gives};
+ghost use Rattle.bar_world.specs.Code.Moves.{plain_move};
 
 use crate::feeding::feed;
 use crate::moves::Move;
@@ -35,7 +35,7 @@ impl World {
         )
     }
 
-    /// A peer takes an input, by its place among the peers.
+    /// A peer takes an input. `place` is its index among the peers.
     fn take_as_peer(&mut self, place: usize, input: Input<'_>) -> Result<(), AllocError>
         requires ready { IsReady self.old }
         requires place { place < length self.old.peers.items }
@@ -55,7 +55,7 @@ impl World {
         )
     }
 
-    /// A party takes an input. One that isn't there takes nothing.
+    /// A party takes an input. Nothing happens if there is no such party.
     fn take(&mut self, party: u16, input: Input<'_>) -> Result<(), AllocError>
         requires { IsReady self.old }
         ensures ready { OnOk result (IsReady self.new) }
@@ -70,7 +70,7 @@ impl World {
         }
     }
 
-    /// A datagram of the pool reaches its receiver. Past the pool nothing happens.
+    /// A datagram of the pool arrives at its receiver. Nothing happens if the pool has no such number.
     fn deliver(&mut self, number: u64) -> Result<(), AllocError>
         requires { IsReady self.old }
         ensures ready { OnOk result (IsReady self.new) }
@@ -100,8 +100,8 @@ impl World {
     }
 }
 
-/// Moves happen in a world, in order. A `Deliver` past the pool and a move of a party that isn't there change nothing. Where memory is
-/// refused the world is of no more use.
+/// Moves happen in a world, in order. A `Deliver` past the end of the pool and a move of a party that doesn't exist change nothing. If an
+/// allocation fails, the world must not be used any more.
 pub fn run_world(world: &mut World, moves: &[Move]) -> Result<(), AllocError>
     requires { IsReady world.old }
     ensures ready { OnOk result (IsReady world.new) }

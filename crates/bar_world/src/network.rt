@@ -1,13 +1,13 @@
-//! A network that loses, repeats and delays by drawn numbers.
+//! A network that loses, repeats and delays datagrams by drawn numbers.
 ghost use Rattle.std.specs.Prelude.{◌≡◌, ℕ, ◌+◌, ◌*◌, ◌++◌, drop, OnOk};
 ghost use Rattle.std.specs.List.{range_with_len};
 ghost use Rattle.bar_rules.specs.World.World.{member};
-ghost use Rattle.bar_world.specs.Kept.{IsReady};
+ghost use Rattle.bar_world.specs.Code.Kept.{IsReady};
 ghost use Rattle.bar_world.specs.Lies.{IsLiar};
-ghost use Rattle.bar_world.specs.Moves.{plain_move};
+ghost use Rattle.bar_world.specs.Code.Moves.{plain_move};
 ghost use Rattle.bar_world.specs.Network.{Game, decided, deliveries, drained, moved, played_on, served, ticked};
-ghost use Rattle.bar_world.specs.Packets.{packets_of};
-ghost use Rattle.bar_world.specs.Playing.{AreAcceptedIn, HasCounts, HasWords, Plays, SameCounts, queue_of};
+ghost use Rattle.bar_world.specs.Code.Packets.{packets_of};
+ghost use Rattle.bar_world.specs.Code.Playing.{AreAcceptedIn, HasCounts, HasWords, Plays, SameCounts, queue_of};
 
 use crate::lies::Liar;
 use crate::moves::Move;
@@ -19,21 +19,21 @@ use rand_core::utils::NextWord;
 use std::alloc::{AllocError, Global};
 use std::collections::VecDeque;
 
-/// A world, and what is on its way there.
+/// A world, with the deliveries that are under way.
 #[derive(Drop)]
 pub(crate) struct Network {
     pub world: World,
     pub liar: Liar,
-    /// What is still to be delivered.
+    /// The deliveries that are still to be made.
     pub queue: VecDeque<Move>,
-    /// The numbers that are drawn.
+    /// The generator of the drawn numbers.
     pub words: ChaCha20Rng,
     pub delivered: u64,
     pub lost: u64,
     pub repeated: u64,
 }
 
-/// Puts the deliveries of the pool's datagrams from a number on at the queue's end.
+/// Appends the deliveries of the pool's datagrams, starting with number `from`, to the queue.
 fn enqueue(
     alloc: Global,
     liar: &Liar,
@@ -56,7 +56,7 @@ fn enqueue(
 const MOST: u32 = 4096;
 
 impl Network {
-    /// A move happens, and the deliveries of what is sent at it go to the queue's end.
+    /// A move happens, and the deliveries of what it sends are appended to the queue.
     fn make(&mut self, step: &Move) -> Result<(), AllocError>
         requires { IsReady self.old.world }
         ensures ready { OnOk result (IsReady self.new.world) }
@@ -65,7 +65,7 @@ impl Network {
     {
         let from = self.world.pool.len();
         self.world.happen(step)?;
-        // what stands in the pool names leaves
+        // the signatures in the pool name leaves
         sent_is_accepted();
         enqueue(
             self.world.alloc,
@@ -76,7 +76,7 @@ impl Network {
         )
     }
 
-    /// What becomes of an entry by a number: it is lost, delivered twice, or delivered once.
+    /// Decides an entry by a drawn number: it is lost, delivered twice, or delivered once.
     fn decide(&mut self, entry: &Move, number: u32) -> Result<(), AllocError>
         requires ready { IsReady self.old.world }
         requires room { HasCounts 1 self.old }
@@ -103,7 +103,7 @@ impl Network {
         }
     }
 
-    /// Takes the queue's first entry, where there is one, and draws what becomes of it.
+    /// Removes the first entry of the queue, if there is one, and draws a number that decides it.
     fn serve(&mut self) -> Result<(), AllocError>
         requires ready { IsReady self.old.world }
         requires words { HasWords 1 self.old }
@@ -120,7 +120,7 @@ impl Network {
         self.decide(&entry, number)
     }
 
-    /// Serves so many entries at the most.
+    /// Serves at most `MOST` entries.
     fn drain(&mut self) -> Result<(), AllocError>
         requires ready { IsReady self.old.world }
         requires words { HasWords 4096 self.old }
@@ -150,7 +150,7 @@ impl Network {
         Ok(())
     }
 
-    /// So many ticks of all parties, and what is delivered after each.
+    /// All parties take `ticks` ticks, with deliveries after each.
     pub fn play(&mut self, ticks: u32) -> Result<(), AllocError>
         requires ready { IsReady self.old.world }
         requires words { HasWords (4096 * ticks) self.old }

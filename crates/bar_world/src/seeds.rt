@@ -1,8 +1,8 @@
-//! What a simulation takes from its seed.
+//! What a simulation derives from its seed.
 ghost use Rattle.std.specs.Prelude.{◌≡◌, length, IfOk};
 ghost use Rattle.rand_chacha.specs.ChaCha.{key_of};
 ghost use Rattle.bar_case.specs.Keystream.{keystream};
-ghost use Rattle.bar_world.specs.Held.{all_held, held_by};
+ghost use Rattle.bar_world.specs.Code.Held.{all_held, held_by};
 ghost use Rattle.bar_world.specs.Sim.{secret_of, source, stream};
 
 use bar_seeds::Secrets;
@@ -11,10 +11,10 @@ use rand_core::{Rng, SeedableRng};
 use sha2::{Digest, Sha256};
 use std::alloc::{AllocError, Global};
 
-/// How many bytes the stream has.
+/// The length of the stream in bytes.
 const STREAM_LEN: usize = 81_760;
 
-/// The first word behind those of the stream.
+/// The first word after those of the stream.
 const FIRST_DRAWN: u128 = 20_440;
 
 /// The secret of a party.
@@ -28,7 +28,7 @@ fn secret_of(seed: u64, party: u16) -> [u8; 32]
     hasher.finalize()
 }
 
-/// What a party derives all from.
+/// The secrets of a party.
 #[tactic(auto, unfolding(bar_bytes::specs::Bytes::u64_bytes))]
 fn secrets_of(seed: u64, party: u16) -> Secrets
     ensures { result ≡ held_by seed party }
@@ -54,7 +54,7 @@ pub(crate) fn all_secrets(seed: u64) -> [Secrets; 6]
     ]
 }
 
-/// The key of the words that the stream and the draws are taken from.
+/// The key of the ChaCha20 words for the stream and the draws.
 #[tactic(auto, unfolding(crate::specs::Sim::source, bar_bytes::specs::Bytes::u64_bytes))]
 fn source(seed: u64) -> [u8; 32]
     ensures { result ≡ source seed }
@@ -73,7 +73,7 @@ fn fill(key: [u8; 32], out: &mut [u8])
     words.fill_bytes(out);
 }
 
-/// So many bytes of the keystream under a key.
+/// The first `len` bytes of the keystream under a key.
 fn keystream(alloc: Global, key: [u8; 32], len: usize) -> Result<Vec<u8>, AllocError>
     ensures { IfOk result (λ bytes. bytes.items ≡ keystream key len) }
 {

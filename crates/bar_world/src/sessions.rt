@@ -1,9 +1,9 @@
-//! A session that is made from its parties' key files.
+//! A session made from its parties' key files.
 ghost use Rattle.std.specs.Prelude.{◌≡◌, ◌+◌, ℕ, List, length, map, None, IfOk};
 ghost use Rattle.bar_rules.specs.World.World.{IsSetup};
 ghost use Rattle.bar_world.specs.Keys.{AreMade, anchor_in, held_in, public_in};
 ghost use Rattle.bar_world.specs.Made.{AreNumbers, session_by};
-ghost use Rattle.bar_world.specs.Setups.{AreOfParties, setup_of};
+ghost use Rattle.bar_world.specs.Code.Setups.{AreOfParties, setup_of};
 
 use crate::numbers::Numbers;
 use bar_roster::{KeyFile, Session};
@@ -32,7 +32,7 @@ fn anchors(alloc: Global, keys: &[KeyFile]) -> Result<Vec<[u8; 32]>, AllocError>
     Ok(anchors)
 }
 
-/// The session of these numbers, made from the key files of its parties, the broadcaster's first.
+/// The session with these parameters, made from the key files of its parties, the broadcaster's first.
 pub fn session(
     alloc: Global,
     shape: Shape,

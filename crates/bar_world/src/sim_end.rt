@@ -1,6 +1,6 @@
 use crate::small_list::SmallList;
 
-/// What a simulation ends with.
+/// The result of a simulation.
 #[derive(Clone, Copy, Debug, PartialEq, Eq)]
 pub struct SimEnd {
     /// How many bytes each of peers 1 to 5 played.
@@ -9,7 +9,7 @@ pub struct SimEnd {
     pub delivered: u64,
     /// How many were lost.
     pub lost: u64,
-    /// How many of those delivered came twice.
+    /// How many of the delivered ones were delivered twice.
     pub repeated: u64,
     /// Whom the broadcaster evicted.
     pub evicted: SmallList,

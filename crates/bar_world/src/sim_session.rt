@@ -1,6 +1,6 @@
 //! The session of a simulation.
 ghost use Rattle.std.specs.Prelude.{◌≡◌, None, IfOk};
-ghost use Rattle.bar_world.specs.Held.{all_held};
+ghost use Rattle.bar_world.specs.Code.Held.{all_held};
 ghost use Rattle.bar_world.specs.Keys.{keys_by};
 ghost use Rattle.bar_world.specs.Sim.{numbers, setup, shape};
 
@@ -25,7 +25,7 @@ const NUMBERS: Numbers = Numbers {
     },
 };
 
-/// The numbers of the session's datagrams. Its id is the seed.
+/// The shape of the session. Its id is the seed.
 #[tactic(auto, unfolding(bar_bytes::specs::Bytes::u64_bytes))]
 fn shape(seed: u64) -> Shape
     ensures { result ≡ shape seed }

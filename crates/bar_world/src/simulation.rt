@@ -1,9 +1,9 @@
 //! The simulation of a seed.
 ghost use Rattle.std.specs.Prelude.{◌≡◌, ℕ, [], length, slice_get, unwrap_or, IfOk};
-ghost use Rattle.bar_world.specs.Kept.{IsReady};
+ghost use Rattle.bar_world.specs.Code.Kept.{IsReady};
 ghost use Rattle.bar_world.specs.Network.{begun};
-ghost use Rattle.bar_world.specs.Playing.{IsPlaying};
-ghost use Rattle.bar_world.specs.Shown.{IsEnd, SparesHonest};
+ghost use Rattle.bar_world.specs.Code.Playing.{IsPlaying};
+ghost use Rattle.bar_world.specs.Code.Shown.{IsEnd, SparesHonest};
 ghost use Rattle.bar_world.specs.Sim.{game, sim};
 
 use crate::laws::{honest_peers_stay, simulations_are_fair};
@@ -59,7 +59,7 @@ pub(crate) fn begin(alloc: Global, seed: u64) -> Result<Network, AllocError>
 }
 
 impl Network {
-    /// How many bytes a party played; none where it isn't there.
+    /// How many bytes a party played; 0 if there is no such party.
     fn played_len(&self, party: usize) -> u64
         ensures { (seed : ℕ) → IsPlaying (game seed) (sim seed) self.now →
             result ≡ length (unwrap_or (slice_get (sim seed).world.played party) []) }
@@ -70,7 +70,7 @@ impl Network {
         }
     }
 
-    /// What the simulation ends with.
+    /// The result of the simulation.
     fn end(&self) -> SimEnd
         ensures { (seed : ℕ) → IsPlaying (game seed) (sim seed) self.now → IsEnd seed result }
     {
@@ -91,8 +91,8 @@ impl Network {
     }
 }
 
-/// The simulation of a seed: a broadcaster and five peers, of whom the fifth lies, over a network that loses, repeats and delays. Whatever
-/// the seed, none of peers 1 to 4 is evicted.
+/// The simulation of a seed: a broadcaster and five peers over a network that loses, repeats and delays. Peer 5 lies. For every seed, none
+/// of peers 1 to 4 is evicted.
 pub fn simulate(alloc: Global, seed: u64) -> Result<SimEnd, AllocError>
     ensures end { IfOk result (λ end. IsEnd seed end) }
     ensures honest { IfOk result (λ end. SparesHonest end) }

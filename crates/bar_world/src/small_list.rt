@@ -8,7 +8,7 @@ pub struct SmallList {
 }
 
 impl SmallList {
-    /// These parties, where they are five at the most, and else the first five.
+    /// These parties, or the first five if there are more.
     pub(crate) fn of(parties: &[u16]) -> SmallList
         ensures few { result.len ≤ 5 }
         ensures all { length parties.now ≤ 5 → take result.len result.list ≡ parties.now }

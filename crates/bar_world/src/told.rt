@@ -1,11 +1,11 @@
-//! What a world tells of itself.
+//! The public view of a world.
 ghost use Rattle.std.specs.Prelude.{◌≡◌, ◌<◌, ℕ, Bool, true, List, length, option_map, slice_get, Some, Contains};
 ghost use Rattle.bar_rules.specs.Broadcaster.Sending.{evicted};
 ghost use Rattle.bar_rules.specs.Peer.Log.{Log};
 ghost use Rattle.bar_rules.specs.World.World.{Setup};
 ghost use Rattle.bar_rules.specs.World.World as plain;
 ghost use Rattle.bar_laws.specs.Parties.{ForgesNothing, IsCastersLog, after};
-ghost use Rattle.bar_world.specs.Kept.{StandsFor};
+ghost use Rattle.bar_world.specs.Code.Kept.{StandsFor};
 
 use crate::world::World;
 use bar_laws::own_runs::parties_run_alone;
@@ -19,8 +19,8 @@ impl World {
         self.played.len()
     }
 
-    /// The peers that the broadcaster evicted, in increasing order. Where the moves forge nothing of the trusted parties, no trusted peer
-    /// is one of them.
+    /// The peers that the broadcaster evicted, in increasing order. If the moves forge nothing of the trusted parties, no trusted peer is
+    /// one of them.
     pub fn evicted(&self) -> &[u16]
         ensures listed { (setup : Setup) (moves : List plain.Move) (log : Log) → StandsFor setup moves self.now →
             IsCastersLog (after setup moves) log → result.now ≡ evicted setup.session log }
@@ -32,7 +32,7 @@ impl World {
         self.caster.evicted()
     }
 
-    /// The datagram of the pool at a place, behind its receiver, or `None` past the pool.
+    /// The receiver and the bytes of the datagram with a number in the pool, or `None` past its end.
     pub fn pool(&self, number: u64) -> Option<(u16, &[u8])>
         ensures { (setup : Setup) (moves : List plain.Move) → StandsFor setup moves self.now →
             option_map (λ sent. (sent.0, sent.1.now)) result ≡ slice_get (after setup moves).packets number }

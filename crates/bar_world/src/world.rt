@@ -4,16 +4,16 @@ use bar_hss::SessionScheme;
 use bar_peer::Peer;
 use std::alloc::Global;
 
-/// All parties of a session, and each datagram that was ever sent.
+/// All parties of a session, and every datagram that was sent.
 #[derive(Drop)]
 pub struct World {
     pub(crate) alloc: Global,
     pub(crate) caster: Caster<SessionScheme>,
-    /// The peers from 1 on.
+    /// The peers, starting with peer 1.
     pub(crate) peers: Vec<Peer<SessionScheme>>,
-    /// What each party played, from the broadcaster on.
+    /// What each party played, starting with the broadcaster.
     pub(crate) played: Vec<Vec<u8>>,
     pub(crate) pool: Vec<Packet>,
-    /// Room for a datagram.
+    /// A buffer for one datagram.
     pub(crate) buf: Vec<u8>,
 }

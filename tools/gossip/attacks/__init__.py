@@ -1,1 +1,1 @@
-"""A sender that attacks a session, and what is required of those that keep the rules."""
+"""A sender that attacks a session, and the checks on the parties that keep the rules."""

@@ -1,8 +1,8 @@
-"""A sender that attacks a session while it runs: it sends every port datagrams that are cut, changed, made up, replayed, random or of
-another session, and what came of them is told by the files that the peers left.
+"""A sender that attacks a session while it runs, and what became of its datagrams, by the files that the parties left.
 
-The attacker has no secret, but sees all that peers take: it reads their recordings as they grow. What is chosen comes from a seed, so many
-datagrams in so many seconds; from what they are chosen depends on the run.
+It sends every party datagrams that are cut, changed, forged, replayed, random or of another session. It has no secret, but sees everything
+that peers receive: it reads their recordings as they grow. A seed determines the random choices, and a plan the number of datagrams and of
+seconds. Which datagrams there are to choose from depends on the run.
 """
 import collections
 import dataclasses
@@ -32,25 +32,25 @@ from gossip.runs.watching import Growing
 from gossip.scripts.console import counted
 from gossip.sessions.session_folder import LOOPBACK
 
-# how many seconds lie between two looks, how many datagrams are sent in one at most, and how many of those that were seen are kept
+# the seconds between two looks, the most datagrams that one look sends, and how many of the datagrams seen are kept
 LOOK, BURST, SEEN = 0.005, 200, 3000
 
-# the largest datagram, and how long those are that are random
+# the size of the largest datagram, and the bound on the size of a random one
 LARGEST, LONGEST_RANDOM = 65_507, 3000
 
 EVERYONE = 0xFFFF
 
-# the kinds that aren't signed, of which one that was changed may be as good as the one that it was made of
+# the kinds that aren't signed: a changed datagram of such a kind may be as valid as the original
 UNSIGNED = (BLOCK, DIVULGE, KEYREQ, EVIDENCE)
 
 
 def cut(draw: random.Random, _session: Session, datagram: bytes, _other: bytes) -> bytes:
-    """The datagram, cut before its end."""
+    """Returns a proper prefix of the datagram."""
     return datagram[: draw.randrange(len(datagram))]
 
 
 def flipped(draw: random.Random, _session: Session, datagram: bytes, _other: bytes) -> bytes:
-    """The datagram with another bit, or with other bytes somewhere."""
+    """Returns the datagram with one bit flipped, or with a few random bytes written over its own."""
     changed = bytearray(datagram)
     at = draw.randrange(len(changed))
     if draw.random() < 0.5:
@@ -62,12 +62,12 @@ def flipped(draw: random.Random, _session: Session, datagram: bytes, _other: byt
 
 
 def longer(draw: random.Random, _session: Session, datagram: bytes, _other: bytes) -> bytes:
-    """The datagram with bytes behind it."""
+    """Returns the datagram with random bytes appended."""
     return datagram + draw.randbytes(draw.randrange(1, 40))
 
 
 def readdressed(draw: random.Random, session: Session, datagram: bytes, _other: bytes) -> bytes:
-    """The datagram with another kind, sender, receiver or round."""
+    """Returns the datagram with its kind, sender, receiver or round replaced."""
     kind, sender, receiver, number = datagram[3], datagram[12:14], datagram[14:16], datagram[16:20]
     parties = [party.to_bytes(2, "big") for party in (*session.parties, EVERYONE)]
     match draw.randrange(4):
@@ -83,39 +83,39 @@ def readdressed(draw: random.Random, session: Session, datagram: bytes, _other: 
 
 
 def signed_by_another(_draw: random.Random, session: Session, datagram: bytes, other: bytes) -> bytes:
-    """The datagram with the signature of another one."""
+    """Returns the datagram with the signature of another one."""
     size = Reader(session).signature
     return datagram[:-size] + other[-size:]
 
 
 def renamed(_draw: random.Random, session: Session, _datagram: bytes, other: bytes) -> bytes:
-    """A datagram of another session with the id of this one."""
+    """Returns a datagram of another session with the id of this one."""
     return other[:4] + bytes.fromhex(session.id) + other[12:]
 
 
 def accusing(draw: random.Random, session: Session, datagram: bytes, other: bytes) -> bytes:
-    """EVIDENCE of real datagrams, which shows nothing."""
+    """Returns an EVIDENCE of one or two real datagrams, which proves nothing."""
     both = [datagram, other][: draw.randrange(1, 3)]
     body = bytes([len(both)]) + b"".join(len(it).to_bytes(2, "big") + it for it in both)
     return head(session, EVIDENCE, draw.randrange(1, session.peers + 1), 0) + body
 
 
 def evicting(draw: random.Random, session: Session, _datagram: bytes, other: bytes) -> bytes:
-    """An EVICT of a peer, with the signature of another datagram."""
+    """Returns an EVICT of a peer, with the signature of another datagram."""
     parties = draw.randrange(1, session.peers + 1).to_bytes(2, "big")
     number = draw.randrange(1, session.rounds + 1).to_bytes(4, "big")
     return head(session, EVICT, 0, EVERYONE) + number + b"\x01" + parties + other[-Reader(session).signature :]
 
 
 def asking(draw: random.Random, session: Session, _datagram: bytes, _other: bytes) -> bytes:
-    """A KEYREQ for any key."""
+    """Returns a KEYREQ for an arbitrary key."""
     sender, receiver = draw.sample(range(1, session.peers + 1), 2)
     number = draw.randrange(1, session.rounds + 1).to_bytes(4, "big")
     return head(session, KEYREQ, sender, receiver) + number + bytes([draw.randrange(2), draw.randrange(2)])
 
 
 def head(session: Session, kind: int, sender: int, receiver: int) -> bytes:
-    """The head of a datagram of the session."""
+    """Returns the head of a datagram of the session."""
     front = MAGIC + bytes([session.version, kind]) + bytes.fromhex(session.id)
     return front + sender.to_bytes(2, "big") + receiver.to_bytes(2, "big")
 
@@ -123,13 +123,13 @@ def head(session: Session, kind: int, sender: int, receiver: int) -> bytes:
 CHANGES = (flipped, flipped, longer, readdressed, signed_by_another)
 FORGERIES = (accusing, evicting, asking)
 
-# the ways in which datagrams are sent, in the order in which they are told
+# the ways in which datagrams are made, in the order in which they are reported
 WAYS = ("cut", "changed", "forged", "replayed", "random", "of another session")
 
 
 @dataclasses.dataclass(frozen=True)
 class Plan:
-    """What an attack sends: so many datagrams in so many seconds, drawn from a seed, with those of another session among them."""
+    """What an attack sends: how many datagrams in how many seconds, the seed of the choices, and the datagrams of another session."""
 
     foreign: list[bytes]
     seed: str
@@ -138,20 +138,20 @@ class Plan:
 
 
 class Attack:
-    """Attacks a session that runs."""
+    """Attacks a session that is running."""
 
     def __init__(self, session: Session, begin: int, recordings: list[pathlib.Path], plan: Plan) -> None:
         self.session, self.begin, self.plan = session, begin / 1000, plan
         self.growing, self.draw = [Growing(path) for path in recordings], random.Random(plan.seed)
-        # the last datagrams that came to peers, all that did, and those that were made here, each with its way
+        # the last datagrams that peers received, all that they received, and the datagrams made here, each with its way
         self.seen: collections.deque[bytes] = collections.deque(maxlen=SEEN)
         self.known: set[bytes] = set()
         self.made: dict[bytes, str] = {}
-        # how many datagrams were sent, by their way, and how often each that is a copy was sent to a party
+        # how many datagrams were sent, by way, and how often each copy was sent to a party
         self.sent, self.copies = collections.Counter(), collections.Counter()
 
     def read(self) -> None:
-        """Takes note of what came to peers, but for what was made here."""
+        """Records the datagrams that peers received, except those that were made here or are too short."""
         for growing in self.growing:
             for entry in growing.more():
                 if entry and len(entry) > DATAGRAM_HEAD + 4 and entry not in self.known and entry not in self.made:
@@ -159,7 +159,7 @@ class Attack:
                     self.seen.append(entry)
 
     def next(self) -> tuple[str, bytes]:
-        """The next datagram, with its way."""
+        """Returns the way and the bytes of the next datagram."""
         way = self.draw.choice(WAYS)
         if way == "random":
             data = self.draw.randbytes(self.draw.randrange(LONGEST_RANDOM))
@@ -175,7 +175,7 @@ class Attack:
         return way, change(self.draw, self.session, datagram, other)[:LARGEST]
 
     def send_one(self, sender: socket.socket) -> None:
-        """Sends a datagram to any party."""
+        """Sends a datagram to a random party."""
         way, datagram = self.next()
         party = self.draw.choice(self.session.parties)
         sender.sendto(datagram, (LOOPBACK, self.session.port + party))
@@ -186,7 +186,7 @@ class Attack:
             self.made.setdefault(datagram, way)
 
     def look(self, now: float, sender: socket.socket) -> None:
-        """One look at this time, in seconds: as many are sent as are due, from the first datagram on that came to a peer."""
+        """Reads the recordings. Once a peer has received a datagram, sends as many as are due at this time, which is in seconds."""
         self.read()
         if self.seen:
             due = min(self.plan.count, round(self.plan.count * (now - self.begin) / self.plan.seconds)) - self.sent.total()
@@ -194,7 +194,7 @@ class Attack:
                 self.send_one(sender)
 
     def looks(self, ended: threading.Event) -> None:
-        """Looks until the end."""
+        """Looks repeatedly until `ended` is set."""
         with socket.socket(socket.AF_INET, socket.SOCK_DGRAM) as sender:
             while not ended.wait(LOOK):
                 self.look(time.time(), sender)
@@ -202,10 +202,10 @@ class Attack:
 
 # ---- floods
 
-# how many datagrams a flood sends each peer between two looks at the end
+# how many datagrams a flood sends to each peer before it sends to the next one
 FLOOD_BURST = 64
 
-# what floods are made of: datagrams of zeros, as long as they can be, and questions for keys of the session, which are the shortest
+# what floods send: datagrams of zeros of the largest size, or KEYREQs of the session, which are the shortest datagrams
 FLOODS = {
     "long": lambda session, party: bytes(LARGEST),
     "short": lambda session, party: head(session, KEYREQ, party % session.peers + 1, party) + bytes([0, 0, 0, 1, 0, 0]),
@@ -213,14 +213,14 @@ FLOODS = {
 
 
 class Flood:
-    """Sends all peers of a session datagrams of one kind, as fast as it can, from now on."""
+    """Sends datagrams of one kind to all peers of a session, as fast as it can."""
 
     def __init__(self, session: Session, kind: str) -> None:
         self.targets = [(FLOODS[kind](session, party), (LOOPBACK, session.port + party)) for party in session.parties if party]
         self.sent = 0
 
     def looks(self, ended: threading.Event) -> None:
-        """Sends until the end."""
+        """Sends until `ended` is set."""
         with socket.socket(socket.AF_INET, socket.SOCK_DGRAM) as sender:
             while not ended.is_set():
                 for datagram, target in self.targets:
@@ -229,28 +229,28 @@ class Flood:
                     self.sent += FLOOD_BURST
 
 
-# ---- what came of it
+# ---- the effects of an attack
 
 
 @dataclasses.dataclass
 class Came:
-    """What came of the datagrams of one way: how many peers took and answered, and how many stand in what parties found."""
+    """What became of the datagrams of one way: how many peers took and answered, and how many are in the parties' findings."""
 
     taken: int = 0
     answered: int = 0
     found: int = 0
-    # the kinds of those that were answered
+    # the kinds of the datagrams that were answered
     kinds: collections.Counter[int] = dataclasses.field(default_factory=collections.Counter)
 
     def note(self, head: Head | None, is_answered: bool) -> None:
-        """Notes a datagram with this head, if it has one, that a peer took."""
+        """Counts a datagram that a peer took, by its head, which is None if the datagram isn't one of the session."""
         self.taken += 1
         self.answered += is_answered
         self.kinds.update([head.kind if head else 0] if is_answered else [])
 
 
 def came_of(attack: Attack, party: int, recording: bytes, answered: Collection[int], came: dict[str, Came]) -> None:
-    """Adds what came to a peer, by its recording and the numbers of the inputs that its replay answers."""
+    """Adds what a peer received, by its recording and the numbers of the inputs that its replay answers."""
     copies = collections.Counter({datagram: count for (to, datagram), count in attack.copies.items() if to == party})
     first = set()
     for number, entry in enumerate(entries_of(recording)[0], 1):
@@ -264,18 +264,18 @@ def came_of(attack: Attack, party: int, recording: bytes, answered: Collection[i
 
 
 def found_of(attack: Attack, findings: dict[str, bytes], came: dict[str, Came]) -> None:
-    """Adds the datagrams that stand in a party's table or evidence and were made by the attacker."""
+    """Adds the datagrams made by the attacker that are in a party's table or evidence."""
     for name, data in findings.items():
-        # evidence is a count, and then datagrams as in a table
+        # an evidence file is a count, and then datagrams as in a table
         for _, datagram in manifests_of(data if name == "table" else data[1:]):
             if datagram in attack.made:
                 came[attack.made[datagram]].found += 1
 
 
 def faults_of(came: dict[str, Came]) -> Iterator[str]:
-    """What the attacker reached, and can't by the rules: that a datagram which isn't a real one was answered or kept."""
+    """Yields what the attacker achieved against the rules: a datagram that it made was answered, or is in a party's findings."""
     for way, it in came.items():
-        # one that isn't signed may be changed into another that is as good
+        # a datagram that isn't signed may be changed into another valid one
         bad = sum(count for kind, count in it.kinds.items() if kind not in UNSIGNED or way not in ("changed", "forged"))
         if bad and way != "replayed":
             yield f"{way}: {counted(bad, 'datagram')} answered"
@@ -284,5 +284,5 @@ def faults_of(came: dict[str, Came]) -> Iterator[str]:
 
 
 def line_of(way: str, sent: int, came: Came) -> str:
-    """What came of the datagrams of one way, in words."""
+    """Returns a line on what became of the datagrams of one way."""
     return f"{way}: {sent:,} sent, {came.taken:,} taken by peers, {came.answered:,} answered, {came.found:,} in what a party found"

@@ -1,4 +1,4 @@
-"""What is required of a session whose parties keep the rules, whoever attacks it: how they end, and what they play and find."""
+"""Checks the parties that keep the rules, whoever attacks their session: how they end, what they play and what they find."""
 import itertools
 import pathlib
 import signal
@@ -13,7 +13,7 @@ from gossip.sessions.session_folder import Folder
 
 
 def end_faults(ended: dict[int, Ran], killed: int | None) -> Iterator[str]:
-    """What isn't as it should be of how the parties ended, and of what the broadcaster says."""
+    """Yields what is wrong with how the parties ended, and with what the broadcaster printed."""
     for party, ran in ended.items():
         wanted = 128 + signal.SIGKILL if party == killed else Status.DONE
         if ran.status != wanted:
@@ -24,13 +24,13 @@ def end_faults(ended: dict[int, Ran], killed: int | None) -> Iterator[str]:
 
 
 def is_of_stream(played: bytes, stream: bytes) -> bool:
-    """Whether what was played are pieces of a stream, in order."""
+    """Whether the played bytes are pieces of the stream, in order."""
     pieces = iter([stream[at : at + CONTENT] for at in range(0, len(stream), CONTENT)])
     return all(piece in pieces for piece in (played[at : at + CONTENT] for at in range(0, len(played), CONTENT)))
 
 
 def played_faults(folder: Folder, parties: Iterable[int]) -> Iterator[str]:
-    """What isn't as it should be of what peers played. One that was killed may have played a part of a piece last."""
+    """Yields what is wrong with what peers played. A last incomplete piece isn't checked, since a peer may have been killed."""
     stream = folder.stream.read_bytes()
     for party in parties:
         played = folder.played(party).read_bytes()
@@ -39,7 +39,7 @@ def played_faults(folder: Folder, parties: Iterable[int]) -> Iterator[str]:
 
 
 def found_faults(folder: Folder) -> Iterator[str]:
-    """What the parties found and shouldn't have."""
+    """Yields what the parties found but shouldn't have: evidence, and manifests that aren't in the broadcaster's table."""
     found = folder.findings()
     signed = {manifest for _, manifest in manifests_of(found[0]["table"])}
     for party, names in sorted(found.items()):
@@ -51,7 +51,7 @@ def found_faults(folder: Folder) -> Iterator[str]:
 
 
 def replay_faults(folder: Folder, session: Session, program: pathlib.Path) -> tuple[Logs, list[str]]:
-    """The logs of the replays, and what they don't agree in."""
+    """Returns the logs of the replays, and the faults: refused replays, and differences from what the parties left."""
     logs, refused = replays.replays_of(folder, program, session.parties[:-1])
     faults, found = [f"party {party}: {told}" for party, told in refused.items()], folder.findings()
     for party, log in logs.items():

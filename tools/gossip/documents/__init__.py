@@ -1,1 +1,1 @@
-"""What the documents of the repository name, and whether it's there."""
+"""Checks that what the documents of the repository name exists."""

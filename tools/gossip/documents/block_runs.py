@@ -1,4 +1,4 @@
-"""Runs the blocks of documents that say so, and compares what they print with the text that is shown behind them."""
+"""Runs the blocks of documents that are marked to be run, and compares their output with the text shown after them."""
 import contextlib
 import itertools
 import os
@@ -13,31 +13,31 @@ from gossip.documents.reading import Block
 
 SECONDS = 90
 GRACE_CHECKS = 100
-# how many of its last lines a fault tells
+# how many of the last printed lines a fault quotes
 SAID_LINES = 12
-# what a block may say that it has, and what one says that is run
+# what the fence of a block may say, and what it says if the block is run
 FORMS = ("sh", "toml", "text")
 RUN = ["sh", "run"]
-# what stands for something that differs from run to run: in a line for some of it, alone for some lines
+# stands for what differs between runs: within a line for a part of it, alone on a line for any number of lines
 DOTS = "..."
 
 
 def fault_of_words(words: list[str]) -> str | None:
-    """What is wrong with the words behind a block's first fence, if anything."""
+    """Returns what is wrong with the words after a block's opening fence, if anything."""
     if words == RUN or len(words) == 1 and words[0] in FORMS:
         return None
     return f"the block doesn't say what it has: {', '.join(FORMS)} or {' '.join(RUN)}"
 
 
 def pattern_of(line: str) -> str:
-    """What a line that is shown matches in what is printed."""
+    """Returns the regular expression for what may be printed for a line that is shown."""
     if line.strip() == DOTS:
         return r"(?:.*\n)*"
     return ".*".join(re.escape(part) for part in line.rstrip().split(DOTS)) + r"[ \t]*\n"
 
 
 def fault_of_lines(shown: list[str], printed: str) -> str | None:
-    """What is wrong with what is printed, if it isn't what is shown."""
+    """Returns how the output differs from what is shown, if it does."""
     patterns = [pattern_of(line) for line in shown]
     printed = printed if printed.endswith("\n") or not printed else f"{printed}\n"
     if re.fullmatch("".join(patterns), printed):
@@ -48,7 +48,7 @@ def fault_of_lines(shown: list[str], printed: str) -> str | None:
 
 
 def end(process: subprocess.Popen[bytes]) -> None:
-    """Ends what a block started and what is left of it: it is asked to end, and killed where it doesn't in time."""
+    """Ends a block's process and those that it started: asks them to end, and kills them if they don't in time."""
     with contextlib.suppress(ProcessLookupError):
         os.killpg(process.pid, signal.SIGTERM)
         for _ in range(GRACE_CHECKS):
@@ -60,7 +60,7 @@ def end(process: subprocess.Popen[bytes]) -> None:
 
 
 def run(lines: list[str], root: pathlib.Path, seconds: float) -> tuple[int | None, str]:
-    """Runs lines in a room of their own. Returns the status, or `None` where the time is up, and what was printed on both streams."""
+    """Runs lines with a temporary folder. Returns the status, or `None` if the time is up, and what was printed on both streams."""
     words = ["bash", "-euo", "pipefail", "-c", "\n".join(lines)]
     with tempfile.TemporaryDirectory(prefix="bar-block-", ignore_cleanup_errors=True) as room, tempfile.TemporaryFile() as out:
         names = os.environ | {"room": room, "TMPDIR": room, "PYTHONUNBUFFERED": "1"}
@@ -76,7 +76,7 @@ def run(lines: list[str], root: pathlib.Path, seconds: float) -> tuple[int | Non
 
 
 def fault_of_run(block: Block, root: pathlib.Path, seconds: float = SECONDS) -> str | None:
-    """Runs a block. Returns what is wrong with how it ends or with what it prints, if anything, with the last of its lines."""
+    """Runs a block. Returns what is wrong with its status or its output, if anything, with the last lines that it printed."""
     status, printed = run(block.lines, root, seconds)
     if status is None:
         fault = f"the block took more than {seconds} s"

@@ -1,4 +1,4 @@
-"""All that is checked of the documents of a repository."""
+"""All checks of the documents of a repository."""
 import collections.abc
 import dataclasses
 import pathlib
@@ -20,10 +20,10 @@ LETTERS = "ABCDEFGHIJKLMNOPQRSTUVWXYZ"
 
 @dataclasses.dataclass
 class Check:
-    """The check of a repository, and how much it has seen."""
+    """The check of a repository, and how much it has checked."""
 
     root: pathlib.Path
-    # what no source has, and sentences with words that else go stale, each with the reason why it stands in a document
+    # names that no source has, and sentences with words that may go stale, each with the reason why a document has it
     excused: dict[str, str] = dataclasses.field(default_factory=dict)
     allowed: dict[str, str] = dataclasses.field(default_factory=dict)
     # what crates.txt lists for a crate that doesn't name it, as "crate: listed", each with the reason
@@ -32,7 +32,7 @@ class Check:
     long: dict[str, str] = dataclasses.field(default_factory=dict)
     # whether blocks that need the built program are run
     with_program: bool = False
-    # what tells that a block is run
+    # called with a line when a block is run
     progress: collections.abc.Callable[[str], None] = lambda line: None
     documents: list[Document] = dataclasses.field(default_factory=list)
     names: int = 0
@@ -50,7 +50,7 @@ class Check:
         self.lookup = Lookup(self.sources, self.commands)
 
     def faults(self) -> Iterator[Fault]:
-        """What isn't so, document by document, and then what the pages have to have."""
+        """Yields the faults, document by document, and then those of what pages must contain."""
         for document in self.documents:
             yield from self.faults_of_names(document)
             yield from self.faults_of_blocks(document)
@@ -65,7 +65,7 @@ class Check:
         yield from self.faults_of_exceptions()
 
     def faults_of_names(self, document: Document) -> Iterator[Fault]:
-        """What is named between backticks or without them, or linked, and isn't there."""
+        """Yields a fault for what is named, in backticks or not, or linked, and doesn't exist."""
         mentions = [mention for _, mention in document.mentions() if self.commands.is_line(mention.text)]
         placeholders = frozenset(LETTERS).union(*(re.findall(r"\b[A-Z]+\b", mention.text) for mention in mentions))
         for passage in document.passages:
@@ -77,7 +77,7 @@ class Check:
             yield from (Fault(document.name, line, fault) for line, fault in found if fault)
 
     def fault_of_link(self, target: str, document: Document) -> str | None:
-        """What is wrong with a link, if anything. Links out of the repository aren't followed."""
+        """Returns what is wrong with a link, if anything. Links out of the repository aren't followed."""
         if re.match(r"[a-z]+:", target):
             return None
         path, _, anchor = target.partition("#")
@@ -92,7 +92,7 @@ class Check:
         return None
 
     def faults_of_blocks(self, document: Document) -> Iterator[Fault]:
-        """What is wrong with a document's blocks: what they say of themselves, what they name, and how they run."""
+        """Yields what is wrong with a document's blocks: what their fences say, what they name, and how they run."""
         for block in document.blocks:
             said = block_runs.fault_of_words(block.words)
             found = [(block.line, said)] if said else [(block.line + 1 + place, fault) for place, fault in self.faults_in(block)]
@@ -103,7 +103,7 @@ class Check:
             yield from (Fault(document.name, line, fault) for line, fault in found if fault)
 
     def faults_in(self, block: Block) -> Iterator[tuple[int, str]]:
-        """What a block names that isn't there: commands, options and files, or keys of the texts; of each its place in the block."""
+        """Yields what a block names that doesn't exist, each with its index in the block: commands, options and files, or TOML keys."""
         if block.words[0] == "sh":
             yield from self.commands.faults_of_block(block.lines)
         elif block.words[0] == "toml":
@@ -111,7 +111,7 @@ class Check:
             yield from ((place, f"there is no key `{key}`") for place, key in keys if key not in self.sources.texts)
 
     def faults_of_exceptions(self) -> Iterator[Fault]:
-        """An exception that no document has is one too many."""
+        """Yields a fault for each exception that no document needs."""
         named = {mention.text for document in self.documents for _, mention in document.mentions()}
         said = [passage.text for document in self.documents for passage in document.passages]
         unused = [name for name in self.excused if name not in named]

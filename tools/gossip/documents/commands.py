@@ -1,4 +1,4 @@
-"""The command lines of documents: whether their commands, options and files are there."""
+"""Checks that the commands, options and files in the command lines of documents exist."""
 import functools
 import os
 import pathlib
@@ -12,7 +12,7 @@ from gossip.documents.sources import Sources
 HELP_SECONDS = 20
 OPERATORS = set("();<>|&")
 ASSIGNMENT = re.compile(r"\w+=")
-# programs that the system has, or the toolchain
+# programs of the system and of the toolchain
 SYSTEM = ("bash", "cat", "cd", "cmp", "diff", "git", "kill", "ls", "man", "mktemp", "python3", "rt", "ss", "wc")
 # what stands for the rest of a line
 REST = ("..", "...")
@@ -24,7 +24,7 @@ def is_program(word: str) -> bool:
 
 
 def lines_of(lines: list[str]) -> Iterator[tuple[int, str]]:
-    """The lines of a block, of each its place there. A line that ends in a backslash goes on in the next one."""
+    """Yields the lines of a block, each with its index. A line that ends in a backslash continues on the next one."""
     whole, first = "", 0
     for place, line in enumerate(lines):
         first = place if not whole else first
@@ -35,7 +35,7 @@ def lines_of(lines: list[str]) -> Iterator[tuple[int, str]]:
 
 
 def commands_of(line: str) -> Iterator[list[str]]:
-    """The words of each command of a line, without the values that it gives to variables."""
+    """Yields the words of each command of a line, without its leading assignments to variables."""
     lexer = shlex.shlex(line, posix=True, punctuation_chars=True)
     lexer.whitespace_split = True
     words = []
@@ -48,35 +48,35 @@ def commands_of(line: str) -> Iterator[list[str]]:
 
 
 def commands_in(lines: list[str]) -> Iterator[tuple[int, list[str]]]:
-    """The words of each command of a block, each with the place of its line. Lines that can't be cut into words raise a ValueError."""
+    """Yields the words of each command of a block, each with the index of its line. Raises ValueError if a line can't be split."""
     for place, line in lines_of(lines):
         yield from ((place, words) for words in commands_of(line))
 
 
 def folder_behind(folder: pathlib.Path | None, word: str) -> pathlib.Path | None:
-    """The folder after a change to one; `None` where it isn't known."""
+    """Returns the current folder after `cd`, or `None` if it isn't known."""
     return folder / word if folder and (folder / word).is_dir() else None
 
 
 def options_in(words: list[str]) -> list[str]:
-    """The options among words, without their values."""
+    """Returns the options among words, without their values."""
     return [word.partition("=")[0] for word in words if word.startswith("--") and word != "--"]
 
 
 class Commands:
-    """The commands of the program, and the scripts of tools/."""
+    """Checks commands of the program, of the scripts of tools/ and of the system."""
 
     def __init__(self, sources: Sources) -> None:
         self.sources = sources
 
     def is_line(self, text: str) -> bool:
-        """Whether what stands between backticks is a command with words behind it, or an option alone."""
+        """Whether a text between backticks is a command with arguments, or an option alone."""
         first, *rest = text.split() or [""]
         is_child = first.isupper() and rest[:1] and rest[0] in self.sources.commands
         return first.startswith("--") or bool(rest) and (first == "bar" or first in SYSTEM or "/" in first or bool(is_child))
 
     def fault_of_line(self, text: str, scripts: tuple[str, ...]) -> str | None:
-        """What is wrong with a command between backticks, if anything."""
+        """Returns what is wrong with a command between backticks, if anything."""
         words = text.split()
         if words[0].startswith("--"):
             return self.fault_of_option(words[0].partition("=")[0], scripts)
@@ -85,14 +85,14 @@ class Commands:
         return self.fault_of_command(words, self.sources.root)
 
     def fault_of_option(self, option: str, scripts: tuple[str, ...]) -> str | None:
-        """An option that stands alone is one of the scripts that its passage names, else of any script; or of a command of the program."""
+        """Returns a fault unless an option is one of the program, or of the scripts that its passage names (any, if it names none)."""
         of_program = {f"--{name}" for names in self.sources.commands.values() for name in names}
         if option in of_program or any(option in (self.options_of(script) or ()) for script in scripts or self.sources.scripts()):
             return None
         return f"there is no option `{option}` of {' or '.join(scripts) or 'any script'} or of the program"
 
     def fault_of_program(self, words: list[str], is_whole: bool = True) -> str | None:
-        """What is wrong with a line of the program. A whole one has each option of its command once."""
+        """Returns what is wrong with a command line of the program, if anything. A whole one has each option of its command once."""
         command, *rest = words or [""]
         if command not in self.sources.commands:
             return f"the program has no command `{command}`"
@@ -106,7 +106,7 @@ class Commands:
         return None
 
     def fault_of_command(self, words: list[str], folder: pathlib.Path | None) -> str | None:
-        """What is wrong with a command in a folder, if anything: the program, a run of it by the toolchain, a script, or any other."""
+        """Returns what is wrong with a command in a folder, if anything. It calls the program, `rt`, a script or something else."""
         lacking = [word for word in words if folder and self.is_lacking(word, folder)]
         if lacking:
             return f"there is no file `{lacking[0]}`"
@@ -117,7 +117,7 @@ class Commands:
         return self.fault_of_script(words) if words[0].startswith("tools/") and options_in(words) else None
 
     def is_lacking(self, word: str, folder: pathlib.Path) -> bool:
-        """Whether a word is a path from a folder, without a word in capitals that stands for one, and nothing is there."""
+        """Whether a word is a relative path without a placeholder in capitals, and it neither exists in the folder nor is built there."""
         if not re.fullmatch(r"[\w.][\w.-]*(?:/[\w.-]*)+", word) or re.search(r"\b[A-Z]+/", word):
             return False
         path = (folder / word).resolve()
@@ -133,7 +133,7 @@ class Commands:
 
     @functools.cache
     def options_of(self, script: str) -> set[str] | None:
-        """The options that a script's own help names; `None` where it has no help."""
+        """Returns the options that a script's `--help` names, or `None` if the script prints no help."""
         path = self.sources.root / script
         if not path.is_file() or not os.access(path, os.X_OK):
             return None
@@ -144,12 +144,12 @@ class Commands:
         return set(re.findall(r"(?<![\w-])--[a-z][\w-]*", ran.stdout.decode(errors="replace"))) if ran.returncode == 0 else None
 
     def take_program(self, lines: list[str]) -> bool:
-        """Whether lines call the program, or a script that takes it."""
+        """Whether lines call the program, or a script that has an option `--bar`."""
         firsts = {words[0] for _, words in commands_in(lines)}
         return any(is_program(first) or first.startswith("tools/") and "--bar" in (self.options_of(first) or ()) for first in firsts)
 
     def faults_of_block(self, lines: list[str]) -> Iterator[tuple[int, str]]:
-        """What is wrong with the lines of a block for the shell, of each its place in the block."""
+        """Yields what is wrong with the lines of a shell block, each with the index of its line."""
         try:
             commands = list(commands_in(lines))
         except ValueError as error:

@@ -1,7 +1,7 @@
 """The definitions of the crates' specs/, and for each the definitions that it uses, by the import lists of the files.
 
-A file takes each name from elsewhere by an import list in braces, or names a module by another name, so what a definition uses is known
-from its text: its names, but those that it binds itself, looked up in its file and in these lists.
+A file imports each name by a list in braces, or gives a module an alias. So the text of a definition shows what it uses: its names, except
+those that it binds itself, are looked up in its file and in these lists.
 """
 import collections.abc
 import dataclasses
@@ -10,7 +10,7 @@ import pathlib
 import re
 import textwrap
 
-# the first line of a definition, of a list of imports, and of another name for a module
+# the first line of a definition; an import list or an alias of a module; a constructor of a type
 HEADER = re.compile(
     r"(?P<indent>(?:  )?)(?:"
     r"(?:(?:abbrev|unfoldable|no_body)(?: pub)? |pub )(?P<sort>(?:record|data) )?(?P<name>[^\s:(){}]+)(?= |$)"
@@ -18,17 +18,17 @@ HEADER = re.compile(
 )
 TAKES = re.compile(r"^(?:pub )?use Rattle\.(?P<module>[\w.]+?)(?:\.\{(?P<names>[^}]*)\}| as (?P<alias>\w+))?$", re.MULTILINE)
 PART = re.compile(r"^  (?:pub )?(?P<name>[^\s:(){}]+) : ", re.MULTILINE)
-# a field of a record, which the fields after it may name; what stands before a field that is given a value
+# a field of a record, which the fields after it may name; what precedes a field that is given a value
 FIELD = re.compile(r"  pub ([^\s:(){}]+) :")
 GIVEN = re.compile(r"[{;]\s*$")
-# a name, with the module or the value before it, and the fields of it; an operator between two places
+# a name, with the module or the value before its dot; an operator
 NAME = re.compile(r"(?<![\w.])(?:(?P<module>[^\W\d][\w]*)\.)?(?P<name>[^\W\d][\w]*(?:-\w+)*)")
 OPERATOR = re.compile(r"[^\s\w(){}\[\].,;:]+")
-# operators that are written with words, and by which word they are known
+# the operators that are written with words, and the word that shows the use of each
 WORDED = {"if◌then◌else◌": "then", "[]": "[]"}
 # what a definition binds: in parentheses or braces before a colon, after a lambda, and by `let`
 BINDERS = re.compile(r"[({](?P<typed>[a-z_][\w ]*) : |λ (?P<given>[^.]+?)\. |\blet (?P<kept>\w+) ")
-# constructors of the kit's types that begin with a small letter, as they stand in patterns
+# the constructors of the kit's types that begin with a small letter, which occur in patterns
 CONSTRUCTORS = {"zero", "suc", "pos", "negsuc", "true", "false", "string", "integer", "array", "item", "no_items"}
 # a type of the code, up to the end of its fields or variants
 RUST_TYPE = r"^(?:pub(?:\([\w:]+\))? )?(?:struct|enum|trait) {name}\b(?:[^\n]*;$|.*?^\}})"
@@ -36,7 +36,7 @@ RUST_TYPE = r"^(?:pub(?:\([\w:]+\))? )?(?:struct|enum|trait) {name}\b(?:[^\n]*;$
 
 @dataclasses.dataclass(frozen=True)
 class Place:
-    """Where a definition stands: its file, from the repository's top, and its lines there."""
+    """The position of a definition: its file, relative to the repository's top, and its lines there."""
 
     file: str
     first: int
@@ -67,17 +67,17 @@ class Definition:
 
     @functools.cached_property
     def size(self) -> int:
-        """How many lines of it say something: no blank ones and no comments."""
+        """How many lines it has without blank ones and comments."""
         return sum(1 for line in self.text.splitlines() if says(line))
 
 
 def module_of(name: str) -> str:
-    """The module of a file of specs/."""
+    """Returns the module of a file of specs/."""
     return name.removeprefix("crates/").removesuffix(".antt").replace("/", ".")
 
 
 def says(line: str) -> bool:
-    """Whether a line says something: it isn't blank, and no comment."""
+    """Whether a line is neither blank nor a comment or attribute."""
     return bool(line.strip()) and not line.lstrip().startswith(("--", "//", "#["))
 
 
@@ -87,7 +87,7 @@ def is_given(clause: str, word: re.Match[str]) -> bool:
 
 
 def clauses_of(text: str) -> list[str]:
-    """The statement of a definition, each of its equations and each of its fields, without comments and texts."""
+    """Returns the clauses of a definition, which are its statement, its equations and its fields, without comments and string literals."""
     found: list[str] = []
     for line in text.splitlines():
         line = re.sub(r"(?:^|\s)--.*$|\"(?:[^\"\\]|\\.)*\"", " ", line)
@@ -100,11 +100,11 @@ def clauses_of(text: str) -> list[str]:
 
 @dataclasses.dataclass
 class File:
-    """A file of specs/: its definitions, and what it takes from elsewhere."""
+    """A file of specs/: its definitions, and what it imports."""
 
     name: str
     module: str
-    # what a name stands for: the module that has it, and its name there; and what another name for a module stands for
+    # the imported names, each with its module and its name there; and the aliases of modules, each with its module
     taken: dict[str, tuple[str, str]] = dataclasses.field(default_factory=dict)
     modules: dict[str, str] = dataclasses.field(default_factory=dict)
     own: dict[str, Definition] = dataclasses.field(default_factory=dict)
@@ -120,7 +120,7 @@ class File:
         return file
 
     def read_uses(self, text: str) -> None:
-        """Takes the import lists of a text, and its other names for modules."""
+        """Records the import lists of a text, and its aliases of modules."""
         for use in TAKES.finditer(text):
             self.take(use)
 
@@ -133,7 +133,7 @@ class File:
                 self.taken[other or name] = (use["module"], name)
 
     def cut(self, lines: list[str]) -> collections.abc.Iterator[Definition]:
-        """The definitions of the file's lines, each from its first line to the last that belongs to it."""
+        """Yields the definitions in the file's lines, each from its first line to the last that belongs to it."""
         within = False
         starts: list[tuple[int, re.Match[str]]] = []
         for number, line in enumerate(lines):
@@ -149,7 +149,7 @@ class File:
 
     @functools.cached_property
     def constructors(self) -> dict[str, str]:
-        """The type of each constructor of the file's types."""
+        """The name of the type of each constructor in the file."""
         return {part: each.name for each in self.own.values() for part in each.constructors}
 
 
@@ -168,14 +168,14 @@ class Definitions:
         return [each for file in self.files.values() for each in file.own.values()]
 
     def is_constructor(self, file: File, name: str) -> bool:
-        """Whether a name is one of a constructor, for this file."""
+        """Whether a name is that of a constructor in this file."""
         module, there = file.taken.get(name, (file.module, name))
         if there in CONSTRUCTORS or there[:1].isupper():
             return True
         return any(each in self.files and there in self.files[each].constructors for each in (module, module.rpartition(".")[0]))
 
     def bound_in(self, file: File, clause: str) -> set[str]:
-        """The names that a clause binds itself: in its head, if it is an equation, and in binders."""
+        """Returns the names that a clause itself binds: in its head, if it is an equation, and in binders."""
         groups = [group for binder in BINDERS.finditer(clause) for group in binder.groups() if group]
         found = set(re.findall(r"\w+", " ".join(groups)))
         head, *body = re.split(r"\s=\s", clause, maxsplit=1)
@@ -184,7 +184,7 @@ class Definitions:
         return {name for name in found if not self.is_constructor(file, name)}
 
     def named_in(self, file: File, definition: Definition) -> set[tuple[str, str]]:
-        """The names that a definition uses: of each the module that has it, and its name there."""
+        """Returns the names that a definition uses, each as its module and its name there."""
         found: set[tuple[str, str]] = set()
         fields: set[str] = set()
         for clause in clauses_of(definition.text):
@@ -199,7 +199,7 @@ class Definitions:
         return found - {(file.module, definition.name)}
 
     def meant(self, file: File, before: str | None, name: str, bound: set[str]) -> tuple[str, str] | None:
-        """What a name means in a file, if it is no variable and no field: the module that has it, and its name there."""
+        """Returns the module of a name and the name there, or `None` if it is a variable, a field or unknown in this file."""
         if before is not None and before in file.modules and before not in bound:
             return file.modules[before], name
         first = before or name
@@ -210,10 +210,10 @@ class Definitions:
         return (file.module, first) if first in file.own or first in file.constructors else None
 
     def found(self, module: str, name: str) -> Definition | None:
-        """What a module has by a name: a definition, the type of a constructor, or a type of the code; of the kit's modules nothing."""
+        """Returns what a name in a module means: a definition, a constructor's type or a type of the code. The kit's modules have none."""
         file = self.files.get(module)
         if file is None:
-            return self.type_of_code(module, name) or self.constructed(module, name)
+            return self.type_of_code(module) or self.constructed(module, name)
         if name in file.own:
             return file.own[name]
         if name in file.constructors:
@@ -221,13 +221,13 @@ class Definitions:
         return self.found(*file.taken[name]) if name in file.taken else None
 
     def constructed(self, module: str, name: str) -> Definition | None:
-        """The type of a constructor that is taken from the module of its type."""
+        """Returns the type of a constructor that is imported from the module of its type."""
         before, _, type_name = module.rpartition(".")
         file = self.files.get(before)
         return file.own.get(type_name) if file and file.constructors.get(name) == type_name else None
 
-    def type_of_code(self, module: str, name: str) -> Definition | None:
-        """The type of the code that a module of declared types has, where this is its name or a variant of it."""
+    def type_of_code(self, module: str) -> Definition | None:
+        """Returns the type that a module declares, if this is a module of declared types or of one type's variants."""
         crate, *path = module.split(".")
         if path[:2] != ["specs", "declared"] or not (self.root / "crates" / crate).is_dir():
             return None
@@ -246,7 +246,7 @@ class Definitions:
         return Definition(name, place, found[0])
 
     def used_by(self, definition: Definition) -> set[Definition]:
-        """The definitions that a definition uses, itself not among them."""
+        """Returns the definitions that a definition uses, except itself."""
         if definition.is_of_code:
             return self.used_by_code(definition)
         found = {self.found(module, name) for module, name in self.named_in(self.file_of(definition), definition)}
@@ -256,14 +256,14 @@ class Definitions:
         return self.files[module_of(definition.place.file)]
 
     def taken_by(self, definition: Definition) -> set[tuple[str, str]]:
-        """The names of the kit, or of lemmas, that a definition uses: of each its module, and its name there."""
+        """Returns the names of the kit, or of lemmas, that a definition uses, each as its module and its name there."""
         if definition.is_of_code:
             return set()
         named = self.named_in(self.file_of(definition), definition)
         return {(module, name) for module, name in named if self.found(module, name) is None}
 
     def used_by_code(self, definition: Definition) -> set[Definition]:
-        """The types of the code that a type of the code names, of its own crate or of one from which its file takes them."""
+        """Returns the types of the code that a type of the code names, of its own crate or of one from which its file imports them."""
         text = (self.root / definition.place.file).read_text(encoding="utf-8")
         lines = "\n".join(line for line in definition.text.splitlines() if says(line))
         crates = {name: use[1] for use in re.finditer(r"^use (\w+)::([^;]+);", text, re.MULTILINE) for name in re.findall(r"\w+", use[2])}
@@ -274,7 +274,7 @@ class Definitions:
         return found
 
     def rust_types_of(self, crate: str, name: str) -> set[Definition]:
-        """The type of this name in a crate's code, if there is one."""
+        """Returns the type with this name in a crate's code, if there is one."""
         source = self.root / "crates" / crate / "src"
         for path in sorted(source.glob("**/*.rt")):
             if re.search(RUST_TYPE.format(name=name), path.read_text(encoding="utf-8"), re.MULTILINE | re.DOTALL):
@@ -282,7 +282,7 @@ class Definitions:
         return set()
 
     def reached_from(self, roots: collections.abc.Iterable[Definition]) -> set[Definition]:
-        """What these rest on, themselves among it."""
+        """Returns these definitions, and all that they use, directly or not."""
         found: set[Definition] = set()
         left = [*roots]
         while left:

@@ -1,7 +1,7 @@
-"""How long the sentences, cells and items of documents are.
+"""Checks how long the sentences, cells and items of documents are.
 
-A word has a letter or a digit, and stands between blanks. What stands between backticks is one word, a row of such names is one too, and
-the target of a link is none.
+A word has a letter or a digit, and is between blanks. What is between backticks counts as one word, and so does a row of such names. The
+target of a link doesn't count.
 """
 import collections.abc
 import re
@@ -13,12 +13,12 @@ TARGET = re.compile(r"\]\([^)\s]*\)")
 ITEM = re.compile(r"\A *(?:[-*]|\d+\.) ")
 # names in a row, each perhaps with a number
 ROW = re.compile(r"\bcode(?::\d+)?(?:, (?:code|[^\s\w]+)(?::\d+)?)+")
-# what ends a sentence: a full stop behind a word or a bracket, before a blank
+# the end of a sentence: a full stop, or a question or exclamation mark, after a word or a bracket and before a blank
 ENDS = re.compile(r"(?<=[\w)\]*`\"”%])[.!?](?=[)*_]*(?:\s|$))")
 
 
 def plain(text: str) -> str:
-    """A text with a word in place of what stands between backticks, and without the targets of its links."""
+    """Returns a text with a word in place of what is between backticks, and without the targets of its links."""
     return ROW.sub("code", TARGET.sub("]", re.sub(SPAN, "code", text)))
 
 
@@ -27,13 +27,13 @@ def words_in(text: str) -> int:
 
 
 def cells_of(passage: Passage) -> list[str]:
-    """The cells of a row of a table; of any other passage the whole of it."""
+    """Returns the cells of a table row, or the whole text of any other passage."""
     text = plain(passage.text)
     return [cell for cell in text.strip().strip("|").split("|")] if text.lstrip().startswith("|") else [text]
 
 
 def too_long_in(passage: Passage) -> collections.abc.Iterator[str]:
-    """What is too long in a passage: a sentence, a cell of a table, or an item of a list."""
+    """Yields what is too long in a passage: a sentence, a table cell or a list item."""
     cells = cells_of(passage)
     for sentence in (each for cell in cells for each in ENDS.split(ITEM.sub("", cell, count=1))):
         if (count := words_in(sentence)) > SENTENCE_WORDS:
@@ -47,7 +47,7 @@ def too_long_in(passage: Passage) -> collections.abc.Iterator[str]:
 
 
 def faults_of_lengths(document: Document, excused: collections.abc.Iterable[str]) -> collections.abc.Iterator[Fault]:
-    """What is too long in a document, but in passages that have an excused text."""
+    """Yields what is too long in a document, except in passages that contain an excused text."""
     for passage in document.passages:
         if not any(text in passage.text for text in excused):
             yield from (Fault(document.name, passage.line, fault) for fault in too_long_in(passage))

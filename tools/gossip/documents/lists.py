@@ -1,4 +1,4 @@
-"""Whether crates.txt lists for each crate what its sources name, and nothing else; and each crate's page its source files."""
+"""Checks that a crate names each crate that crates.txt lists for it, and that its page names its source files."""
 import pathlib
 import re
 from collections.abc import Iterator
@@ -8,7 +8,7 @@ from gossip.documents.sources import Sources
 
 
 def faults_of_lists(sources: Sources, needed: dict[str, str]) -> Iterator[Fault]:
-    """A crate in a list is named in the crate whose list it is, or needed there by the prover, and excused only where it isn't named."""
+    """Checks that a crate names each crate in its list, unless an excuse says that the prover needs it, and that each excuse is needed."""
     left = set(needed)
     for number, line in enumerate(sources.lines_of("crates.txt"), 1):
         crate, _, below = line.partition(":")
@@ -23,7 +23,7 @@ def faults_of_lists(sources: Sources, needed: dict[str, str]) -> Iterator[Fault]
 
 
 def faults_of_files(root: pathlib.Path) -> Iterator[Fault]:
-    """Each source file of a crate but its root file is named in the crate's README.md."""
+    """Checks that the README.md of a crate names each of its source files but the root file."""
     for page in sorted(root.glob("crates/*/README.md")):
         text, crate = page.read_text("utf-8"), page.parent
         for path in sorted(crate.glob("src/**/*.rt")):

@@ -1,11 +1,11 @@
-"""Reads a manual page as a document in Markdown, so that it's checked as the others are: a line for each of its lines.
+"""Reads a manual page as a document in Markdown, so that it is checked like the others. Each of its lines becomes one line.
 
-What is set in bold or italics stands between backticks, and what follows the tag of a status is a row of the table of statuses. A macro or
-an escape that isn't known here is refused.
+Text in bold or italics is put between backticks. The text after the tag of an exit status becomes a row of the table of statuses. An
+unknown macro or escape is refused.
 """
 import re
 
-# macros behind which a passage of its own begins, and those that are dropped
+# the macros after which a new passage begins, and the macro for bold text
 BREAKS, BOLD = ("TH", "TP", "PP", "nf", "fi"), "B"
 STATUSES = "EXIT STATUS"
 ESCAPES = {r"\-": "-", r"\&": ""}
@@ -13,7 +13,7 @@ FONTS = re.compile(r"\\f[BI](.*?)(?=\\f)")
 
 
 def words_of(line: str) -> str:
-    """A line of text, with backticks about what is bold or in italics; what only fonts or a blank part is one."""
+    """Returns a line of text with backticks around its bold and italic parts. Those with nothing or a blank between them are joined."""
     text = FONTS.sub(lambda part: f"`{part[1]}`", line).replace(r"\fR", "")
     for escape, letters in ESCAPES.items():
         text = text.replace(escape, letters)
@@ -23,7 +23,7 @@ def words_of(line: str) -> str:
 
 
 def row_of(status: str, text: str) -> str:
-    """What is said of a status as a row: its line on standard error, where it begins with one, and when."""
+    """Returns the table row of a status: its line on standard error, if the text begins with one, and when it is returned."""
     said = re.match(r"(`bar: [^`]*`): ", text)
     return f"| {status} | {said[1] if said else ''} | {text[said.end() :] if said else text} |".replace("|  |", "| |")
 
@@ -35,7 +35,7 @@ class Manual:
         self.section, self.is_tag, self.status = "", False, None
 
     def line(self, line: str) -> str:
-        """The line that stands for it."""
+        """Returns the line in Markdown for a line of the page."""
         if line.startswith('.\\"'):
             return ""
         macro = re.fullmatch(r"\.(\w+) ?(.*)", line)
@@ -51,7 +51,7 @@ class Manual:
         return self.text(text)
 
     def text(self, text: str) -> str:
-        """A line of text, which may be a tag, or the first one behind a status."""
+        """Returns the line in Markdown for a line of text, which may be a tag, or the first line after the tag of a status."""
         is_tag, self.is_tag = self.is_tag, False
         if is_tag and self.section == STATUSES:
             self.status = text.strip("`")
@@ -61,6 +61,6 @@ class Manual:
 
 
 def markdown_of(text: str) -> str:
-    """A manual page in Markdown, a line for each of its lines."""
+    """Returns a manual page in Markdown, with a line for each of its lines."""
     manual = Manual()
     return "\n".join(map(manual.line, text.splitlines()))

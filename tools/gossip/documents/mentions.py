@@ -1,8 +1,8 @@
-"""Whether what a document names stands in the repository.
+"""Checks that what a document names exists in the repository.
 
-A crate's own document, and a passage with a link to it, are about this crate and those that the passage names. What they name stands in one
-of these crates or in one below them; what any other passage names, in any crate. A file or folder may be named by any end of its path, with
-or without its ending.
+The subject of a crate's own document, and of a passage with a link to one, is this crate and the crates that the passage names. What they
+name must be in one of these crates or in one below them. What any other passage names may be in any crate. A file or folder may be named by
+any suffix of its path, with or without its extension.
 """
 import dataclasses
 import fnmatch
@@ -14,7 +14,7 @@ from gossip.documents.names import Definition, Kind
 from gossip.documents.reading import CRATE, Document, Mention, Passage
 from gossip.documents.sources import Sources
 
-# the kinds of names that the words before them mean
+# the kinds of names that the word before a name allows
 KINDS = {
     "clause": {Kind.CLAUSE},
     "field": {Kind.FIELD},
@@ -33,7 +33,7 @@ BYTES = re.compile(r"(?:[0-9a-f]{2} )*[0-9a-f]{2}|f+|\d+")
 CALCULATION = re.compile(r".* [-+*/%^≤] .*|\(\w+ : \w+\)")
 FILE = re.compile(r"[\w.*-]+(?:/[\w.*-]*)+|[\w*-]+(?:\.[\w*-]+)+")
 PLACEHOLDER = re.compile(r"\b[A-Z]+\b")
-# a name: with what it stands in before it; with an ending of a file, members, or arguments behind it
+# a name, after what contains it, and before a file extension, members in braces, or arguments
 NAME = re.compile(r"(?P<name>[\w-]+(?:(?:::|\.|/)[\w-]+)*?)(?:\.(?:rt|antt|edit)|::\{(?P<members>[\w, ]+)\}|\(.*\)|(?: [a-z_]\w*)+)?")
 
 
@@ -41,12 +41,12 @@ NAME = re.compile(r"(?P<name>[\w-]+(?:(?:::|\.|/)[\w-]+)*?)(?:\.(?:rt|antt|edit)
 class Subject:
     """What a passage is about."""
 
-    # its crates, and these with all below them; none, where it may name what stands in any crate
+    # its crates, and these with all below them; both are empty if it may name what is in any crate
     crates: frozenset[str]
     below: frozenset[str]
     # the scripts that it names
     scripts: tuple[str, ...]
-    # the words in capitals that stand for something in the document's commands
+    # the words in capitals that are placeholders in the document's commands
     placeholders: frozenset[str]
 
     @classmethod
@@ -57,7 +57,7 @@ class Subject:
         return cls(crates, below, tuple(passage.names_of(r"\btools/[\w-]+")), placeholders)
 
     def allows(self, crates: Collection[str]) -> bool:
-        """Whether something that stands in one of these crates may be meant; what stands outside of all crates may."""
+        """Whether something in one of these crates may be meant. Something outside of all crates always may."""
         return not self.below or "" in crates or not self.below.isdisjoint(crates)
 
     def __str__(self) -> str:
@@ -65,12 +65,12 @@ class Subject:
 
 
 def kinds_of(word: str) -> set[Kind] | None:
-    """The kinds of names that the word before a name means, in the singular or plural; `None` where it means none."""
+    """Returns the kinds of names that the word before a name allows, in the singular or plural, or `None` if it allows any."""
     return KINDS.get(word, KINDS.get(word.removesuffix("s")))
 
 
 def parts_of(owner: str) -> list[str]:
-    """The parts of a path, or of a name with its crate and type: each of them owns what belongs to it."""
+    """Returns the parts of a path, or of a name with its crate and type. Each of them owns what belongs to it."""
     return [part for part in re.findall(r"[\w-]+", owner.partition("(")[0]) if part not in ("crates", "rt", "antt")]
 
 
@@ -82,7 +82,7 @@ class Lookup:
         self.commands = commands
 
     def fault(self, mention: Mention, subject: Subject) -> str | None:
-        """What is wrong with what is named, if anything. Nothing belongs to a command of the program or a crate of the toolchain."""
+        """Returns what is wrong with a mention, if anything. Commands of the program and crates of the toolchain aren't owners."""
         text = mention.text
         owners = tuple(owner for owner in mention.owners if owner not in self.sources.commands and owner not in self.sources.ported)
         mention = dataclasses.replace(mention, owners=owners)
@@ -95,7 +95,7 @@ class Lookup:
         return f"there is no {kind}`{text}`{owners}{subject}"
 
     def is_there(self, mention: Mention, subject: Subject) -> bool:
-        """Whether it is a name of its kind and owner; where neither is told, it may also be a crate, a file, a text or a library's name."""
+        """Whether it is a name of its kind and owner. If neither is given, it may also be a crate, a file, a text or a library's name."""
         is_bare = not mention.owners and not kinds_of(mention.word)
         return self.are_names(mention, subject) or is_bare and self.is_known(mention.text, subject)
 
@@ -124,7 +124,7 @@ class Lookup:
         )
 
     def owns(self, part: str, definition: Definition) -> bool:
-        """Whether a name is one of the owners of a definition, stands for one of them, or is a crate that hands the definition on."""
+        """Whether a name is one of the owners of a definition, an alias of one of them, or a crate that re-exports the definition."""
         return (
             part in definition.owners
             or not definition.owners.isdisjoint(self.sources.aliases.get(part, ()))
@@ -132,19 +132,19 @@ class Lookup:
         )
 
     def has(self, owner: str, definition: Definition) -> bool:
-        """Whether a definition belongs to what is named as its owner, or is named in what that says."""
+        """Whether a definition belongs to the owner with this name, or is named in the text of that owner."""
         *owners, name = parts_of(owner)
         return all(self.owns(part, definition) for part in (*owners, name)) or any(
             each.says(definition.name) and all(self.owns(part, each) for part in owners) for each in self.sources.definitions.get(name, ())
         )
 
     def is_calculation(self, text: str) -> bool:
-        """Whether each word of a calculation but single letters is known."""
+        """Whether each word of a calculation is known, except single letters."""
         words = re.findall(r"[^\W\d]\w+", text)
         return all(word in self.sources.definitions or word in self.sources.texts or word in self.sources.library for word in words)
 
     def is_file(self, text: str, subject: Subject) -> bool:
-        """Whether it is a file or folder: one that stands there, that is built, that the program or a script makes, or of the system."""
+        """Whether it is a file or folder that exists, is built, is made by the program or a script, or belongs to the system."""
         crates = self.sources.paths.get(text.rstrip("/"))
         if crates is not None:
             return subject.allows(crates)
@@ -155,7 +155,7 @@ class Lookup:
         return is_pattern or self.sources.is_ignored(self.sources.root / text) or self.is_made(text)
 
     def is_made(self, text: str) -> bool:
-        """Whether a file's name is a text of a script, or each part of it that isn't in capitals is one of the program."""
+        """Whether a file's name is a text of a script, or the program has an extension for each part of it that isn't in capitals."""
         name = re.sub(r"^[A-Z]+/", "", text)
         words = re.findall(r"[a-z][\w-]*", PLACEHOLDER.sub("", name))
         return self.sources.prints(name) or all(f".{word}" in self.sources.texts for word in words)

@@ -1,4 +1,4 @@
-"""The names that .rt and .antt files define, by regular expressions, and the texts that stand in them and in scripts."""
+"""The names that .rt and .antt files define, found by regular expressions, and the string literals of these files and of scripts."""
 import ast
 import dataclasses
 import enum
@@ -8,7 +8,7 @@ from collections.abc import Iterable, Iterator
 
 
 class Kind(enum.Enum):
-    """What sort of name it is."""
+    """The sort of a name."""
 
     FUNCTION = enum.auto()
     TYPE = enum.auto()
@@ -34,7 +34,7 @@ KINDS_OF_KEYWORDS = {
     "static": Kind.CONSTANT,
     "mod": Kind.MODULE,
 }
-# what is a part of the name before it
+# the kinds that are part of the definition before them
 PARTS = (Kind.CLAUSE, Kind.FIELD, Kind.VARIANT)
 
 # a line of a .rt file that defines a name, or ends a block at the left edge
@@ -55,7 +55,7 @@ ANTT = re.compile(
     r"(?:(?P<keyword>record|data) (?P<type>[^\s:]+)|(?P<name>[^\s:(){}=]+) :\s)",
     re.MULTILINE,
 )
-# what a line says behind its code, and a crate at the front of a path: of definitions, or of code
+# the comment after a line's code; the crate at the start of a path, in definitions or in code
 COMMENT = {".rt": re.compile(r"//.*"), ".antt": re.compile(r"--.*")}
 NAMED = re.compile(r"\bRattle\.(\w+)\.|(?<![\w:])(\w+)::")
 
@@ -71,9 +71,9 @@ class Definition:
     name: str
     kind: Kind
     crate: str
-    # what it belongs to: its crate, its file and the folders of it, its type, trait, record or function
+    # what it belongs to: its crate, its file and the folders of this, its type, trait, record or function
     owners: frozenset[str]
-    # what its file says from it on, up to the next name that isn't a part of it
+    # the text of its file from the definition up to the next name that isn't a part of it
     text: str = dataclasses.field(default="", repr=False, compare=False)
 
     def says(self, name: str) -> bool:
@@ -81,7 +81,7 @@ class Definition:
 
 
 class Named(typing.NamedTuple):
-    """A name that a file defines: its place, its name, its kind and what it stands in."""
+    """A name that a file defines: its position, its name, its kind and what contains it."""
 
     place: int
     name: str
@@ -90,7 +90,7 @@ class Named(typing.NamedTuple):
 
 
 def type_of(header: str) -> str:
-    """The type that a block `impl` is of."""
+    """Returns the type that an `impl` block is for."""
     while GENERICS.search(header):
         header = GENERICS.sub("", header)
     words = re.findall(r"\w+", header.split(" where ")[0].split(" for ")[-1])
@@ -98,7 +98,7 @@ def type_of(header: str) -> str:
 
 
 def rust_names(text: str) -> Iterator[Named]:
-    """The names that a .rt file defines."""
+    """Yields the names that a .rt file defines."""
     block, sort, function = "", "", ""
     for line in RUST.finditer(text):
         inside = [block] if line["indent"] and block else []
@@ -123,7 +123,7 @@ def rust_names(text: str) -> Iterator[Named]:
 
 
 def antt_names(text: str) -> Iterator[Named]:
-    """The names that an .antt file defines."""
+    """Yields the names that an .antt file defines."""
     block, sort = "", Kind.DEFINITION
     for line in ANTT.finditer(text):
         if line["keyword"]:
@@ -140,7 +140,7 @@ NAMES = {".rt": rust_names, ".antt": antt_names}
 
 
 def definitions_of(text: str, ending: str, crate: str, owners: frozenset[str]) -> Iterator[Definition]:
-    """The definitions of a file with this ending, which belong to these."""
+    """Yields the definitions of a file with this extension, which have these owners."""
     end = len(text)
     for named in reversed(list(NAMES[ending](text))):
         yield Definition(named.name, named.kind, crate, owners.union(named.inside), text[named.place : end])
@@ -148,19 +148,19 @@ def definitions_of(text: str, ending: str, crate: str, owners: frozenset[str]) -
 
 
 def named_in(text: str, ending: str) -> set[str]:
-    """The crates that a source names, among other names that stand at the front of a path."""
+    """Returns the names at the start of paths in a source, among them the crates that it names."""
     return {first or second for first, second in NAMED.findall(COMMENT[ending].sub("", text))}
 
 
 def texts_of(text: str) -> Iterator[str]:
-    """The lines of the texts between quotes, outside of comments."""
+    """Yields the lines of the string literals outside of comments."""
     for found in TEXTS.finditer(text):
         if found[1]:
             yield from re.sub(r'\\[n"\\]', lambda escape: ESCAPES[escape[0]], found[1]).split("\n")
 
 
 def script_texts_of(text: str) -> Iterator[str]:
-    """The lines of the texts in a Python script, with braces for the parts that are filled in."""
+    """Yields the lines of the string literals of a Python script, with braces for the parts that are filled in."""
     for node in ast.walk(ast.parse(text)):
         if isinstance(node, ast.Constant) and isinstance(node.value, str):
             yield from node.value.split("\n")
@@ -169,7 +169,7 @@ def script_texts_of(text: str) -> Iterator[str]:
 
 
 def patterns_of(texts: Iterable[str]) -> Iterator[re.Pattern[str]]:
-    """What texts that are filled in may look like: something stands for each part between braces, and a word stands beside them."""
+    """Yields a pattern for each text with parts in braces, which are filled in. A text without a word beside them has no pattern."""
     for text in texts:
         parts = re.split(r"\{[^{}]*\}", text)
         if len(parts) > 1 and re.search(r"[A-Za-z]{2}", "".join(parts)):

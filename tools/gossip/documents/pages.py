@@ -1,4 +1,4 @@
-"""What README.md, the pages of crates and scripts, docs/FORMATS.md and the manual page have to have, and the words that no document has."""
+"""The required contents of README.md, of the pages on crates, scripts and formats, and of the manual page; and forbidden words."""
 import pathlib
 import posixpath
 import re
@@ -10,12 +10,12 @@ from gossip.documents.sources import Sources
 README_LINES = 130
 CRATE_COLUMNS = 140
 WORDS = re.compile(r"\b(?:yet|TODO|today)\b", re.IGNORECASE)
-# a row of the table of statuses: the status, and its line
+# a row of the table of exit statuses: the status, and the line on standard error
 STATUS = re.compile(r"\| (\d+) \| (?:`([^`]+)` )?\|")
 
 
 def faults_of_crate(crate: str, page: Document, root: pathlib.Path) -> Iterator[Fault]:
-    """A crate has one short line in the page of the crates, with a link to its own document."""
+    """Checks that a crate has one short line in the page of the crates, with a link to its own document."""
     own = f"crates/{crate}/README.md"
     goes_to = f"]({posixpath.relpath(own, posixpath.dirname(page.name) or '.')})"
     lines = [(number, line) for number, line in enumerate(page.text.splitlines(), 1) if goes_to in line]
@@ -34,9 +34,10 @@ def names(text: str, name: str) -> bool:
 
 
 def faults_of_readme(pages: Mapping[str, Document], sources: Sources) -> Iterator[Fault]:
-    """README.md is short, and names each document.
+    """Checks that README.md is short and names each document.
 
-    Each script is named there or in docs/RUNNING.md, and each crate has its line there or in docs/ARCHITECTURE.md.
+    Each script must be named there or in docs/RUNNING.md. Each crate must have its line in docs/ARCHITECTURE.md, or in README.md if there
+    is no such page.
     """
     readme = pages["README.md"]
     count = readme.text.count("\n")
@@ -52,7 +53,7 @@ def faults_of_readme(pages: Mapping[str, Document], sources: Sources) -> Iterato
 
 
 def statuses_of(sources: Sources) -> Iterator[tuple[str, str]]:
-    """The exit statuses by the program's own definitions, with the beginnings of their lines on standard error."""
+    """Yields the exit statuses by the program's own definitions, each with the beginning of its line on standard error."""
     texts = {name: each.text for name in ("code_of", "said_at") for each in sources.definitions.get(name, ()) if "Status" in each.owners}
     said = dict(re.findall(r"^said_at \(?(\w+).* = (?:\w+\.)?(\w+)", texts.get("said_at", ""), re.MULTILINE))
     for variant, status in re.findall(r"^code_of \(?(\w+).* = (\d+)$", texts.get("code_of", ""), re.MULTILINE):
@@ -61,13 +62,13 @@ def statuses_of(sources: Sources) -> Iterator[tuple[str, str]]:
 
 
 def is_of_status(row: re.Match[str], status: str, said: str) -> bool:
-    """Whether a row is of a status, with a line that begins so, or with none."""
+    """Whether a row is of this status, with a line that begins like this, or without a line if the status has none."""
     line = row[2] or ""
     return row[1] == status and line.startswith(said) and bool(line) == bool(said)
 
 
 def faults_of_statuses(formats: Document, sources: Sources) -> Iterator[Fault]:
-    """A page of formats has a row for each exit status and its line, and no others."""
+    """Checks that a page of formats has a row for each exit status and its line, and no other rows of statuses."""
     statuses = sorted(set(statuses_of(sources)))
     rows = [(row, passage.line) for passage in formats.passages if (row := STATUS.match(passage.text))]
     lacking = [status for status in statuses if not any(is_of_status(row, *status) for row, _ in rows)]
@@ -77,7 +78,7 @@ def faults_of_statuses(formats: Document, sources: Sources) -> Iterator[Fault]:
 
 
 def faults_of_formats(formats: Document, sources: Sources) -> Iterator[Fault]:
-    """A page of formats has each command of the program, and its statuses."""
+    """Checks that a page of formats has each command of the program, and its exit statuses."""
     spans = [mention.text for _, mention in formats.mentions()]
     lacking = [command for command in sources.commands if not any(span.startswith(f"bar {command} ") for span in spans)]
     yield from (Fault(formats.name, 1, f"it has no line of the command `{command}`") for command in lacking)
@@ -85,7 +86,7 @@ def faults_of_formats(formats: Document, sources: Sources) -> Iterator[Fault]:
 
 
 def faults_of_words(document: Document, allowed: Iterable[str]) -> Iterator[Fault]:
-    """No document has a word that tells of its own time, outside of the sentences that are allowed."""
+    """Checks that a document has no word that goes stale, outside of the allowed sentences."""
     sentences = re.compile("|".join(map(re.escape, allowed)) or "(?!)")
     for passage in document.passages:
         rest = sentences.sub(lambda cut: re.sub(r"[^\n]", " ", cut[0]), passage.text)

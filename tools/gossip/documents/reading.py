@@ -1,4 +1,4 @@
-"""Reads documents in Markdown and manual pages: their passages, what these name, their links and their blocks."""
+"""Reads documents in Markdown and manual pages: their passages, the names in these, their links and their blocks."""
 import dataclasses
 import functools
 import pathlib
@@ -7,22 +7,22 @@ from collections.abc import Iterator
 
 from gossip.documents.manual import markdown_of
 
-# the ending of a manual page
+# the extension of a manual page
 MANUAL = ".1"
 SPAN = r"(?<!`)`[^`]+`(?!`)"
 CRATE = r"\bbar_\w+"
 FENCE = re.compile(r"(?P<indent> *)(?P<fence>`{3,})(?P<words>[^`]*)")
-# what begins a passage of its own: a heading, an item of a list, a row of a table, a quotation; the first and the third go on in no line
+# what begins a passage: a heading, a list item, a table row or a quotation; headings and rows never continue on the next line
 BEGINS = re.compile(r" *(?:#+ |[-*] |\d+\. |\||>)")
 SINGLE = re.compile(r" *(?:#|\|)")
 LINK = re.compile(r"\[[^\]]*\]\(([^)\s]+)\)")
 # files and crates that are named without backticks
 BARE = re.compile(rf"(?<![\w/.-])(?:(?:docs|tools|examples|crates)/[\w./-]*\w|[A-Z]+\.md\b|{CRATE})")
 
-# names that stand in one row: `a`, `b` and `c`
+# names in a row: `a`, `b` and `c`
 ROW = re.compile(rf"{SPAN}(?:(?:,| and| or|, and|, or)\s{SPAN})*")
 WORD_BEFORE = re.compile(r"(?:(?<![\w'])([a-z]+)\s)?$")
-# what says to what the names of a row belong: before it, and what ends the row then; and behind it
+# what names the owners of a row: before it, with what then ends the row; and after it
 OWNERS = re.compile(rf"(?P<owners>{ROW.pattern})(?: of {SPAN})?(?P<form>:|'s|,)\s$")
 ROW_ENDS = re.compile(r"\s*(?:[;|).,]|$)")
 BEHIND = re.compile(rf"\s(?:of|in)\s(?:`(?P<owner>[^`]+)`|(?P<crate>{CRATE}))")
@@ -30,7 +30,7 @@ BEHIND = re.compile(rf"\s(?:of|in)\s(?:`(?P<owner>[^`]+)`|(?P<crate>{CRATE}))")
 
 @dataclasses.dataclass(frozen=True)
 class Fault:
-    """What isn't so in a document."""
+    """What is wrong in a document."""
 
     document: str
     line: int
@@ -42,11 +42,11 @@ class Fault:
 
 @dataclasses.dataclass(frozen=True)
 class Mention:
-    """What a document names between backticks, and what it says of it beside the name."""
+    """A name between backticks in a document, and what the text beside it says of it."""
 
     text: str
     line: int
-    # what it belongs to by what stands beside it, to one of these: crates, files, types, functions
+    # the owners, by the text beside it, to one of which it belongs: crates, files, types, functions
     owners: tuple[str, ...] = ()
     # the word before its row, such as "clause" or "laws"
     word: str = ""
@@ -63,16 +63,16 @@ class Passage:
         return self.line + self.text.count("\n", 0, place)
 
     def names_of(self, pattern: str) -> list[str]:
-        """The names of a form that stand in it, in backticks or not."""
+        """Returns the matches of a pattern in it, in backticks or not."""
         return re.findall(pattern, self.text)
 
     def mentions(self) -> Iterator[Mention]:
-        """What it names between backticks."""
+        """Yields what it names between backticks."""
         for row in ROW.finditer(self.text):
             yield from self.mentions_of(row)
 
     def mentions_of(self, row: re.Match[str]) -> Iterator[Mention]:
-        """The names of a row, with what stands beside it. Of a row that itself tells an owner, its last name alone goes on."""
+        """Yields the names of a row with their owners. In a row after "of" or "in", an owner after the row is that of the last name."""
         word = WORD_BEFORE.search(self.text, 0, row.start())
         before = self.owners_before(word.start(), row.end(), word[1] or "")
         spans = list(re.finditer(SPAN, row[0]))
@@ -82,7 +82,7 @@ class Passage:
             yield Mention(" ".join(span[0][1:-1].splitlines()), self.line_at(row.start() + span.start()), owners, word[1] or "")
 
     def owners_before(self, start: int, end: int, word: str) -> tuple[str, ...]:
-        """To what a row belongs by what stands before it: `owner`: `a`, `b`; `owner`'s `a`; `owner`, clause `a`."""
+        """Returns the owners that are named before a row: `owner`: `a`, `b`; `owner`'s `a`; `owner`, clause `a`."""
         before = OWNERS.search(self.text, 0, start)
         is_clause = word in ("clause", "clauses")
         if before is None or (before["form"] == "," and not is_clause) or (word and not is_clause):
@@ -92,31 +92,31 @@ class Passage:
         return tuple(re.findall(r"`([^`]+)`", before["owners"]))
 
     def owner_behind(self, end: int) -> tuple[str, ...]:
-        """To what a row belongs by what stands behind it: `a`, `b` of `owner`, or in it."""
+        """Returns the owner that is named after a row: `a`, `b` of `owner`, or in `owner`."""
         behind = BEHIND.match(self.text, end)
         return (behind["owner"] or behind["crate"],) if behind else ()
 
     def bare_names(self) -> Iterator[tuple[int, str]]:
-        """The files and crates that it names without backticks, of each the line and the name."""
+        """Yields the files and crates that it names without backticks, each as its line and its name."""
         plain = re.sub(rf"{SPAN}|{LINK.pattern}", lambda cut: re.sub(r"[^\n]", " ", cut[0]), self.text)
         for name in BARE.finditer(plain):
             yield self.line_at(name.start()), name[0]
 
     def links(self) -> Iterator[tuple[int, str]]:
-        """Where its links go, of each the line and the target."""
+        """Yields the line and the target of each of its links."""
         for link in LINK.finditer(self.text):
             yield self.line_at(link.start()), link[1]
 
 
 @dataclasses.dataclass
 class Block:
-    """What stands between two fences."""
+    """The text between two fences."""
 
     line: int
-    # the words behind its first fence
+    # the words after its opening fence
     words: list[str]
     lines: list[str] = dataclasses.field(default_factory=list)
-    # the block of text behind it, where nothing but blank lines stands between the two
+    # the text block after it, if only blank lines are between the two
     shown: "Block | None" = None
 
 
@@ -167,7 +167,7 @@ class Document:
             last.shown = block
 
     def add_line(self, number: int, line: str, goes_on: bool) -> None:
-        """Takes a line of prose: it goes on with the passage before it, or begins one."""
+        """Adds a line of prose, which continues the passage before it or begins one."""
         if goes_on and not BEGINS.match(line) and not SINGLE.match(self.passages[-1].text):
             before = self.passages.pop()
             self.passages.append(Passage(before.line, f"{before.text}\n{line}"))
@@ -176,11 +176,11 @@ class Document:
 
     @functools.cached_property
     def anchors(self) -> set[str]:
-        """The names by which links go to its headings."""
+        """The anchors of its headings, as links name them."""
         headings = [passage.text.lstrip("# ").lower() for passage in self.passages if passage.text.startswith("#")]
         return {re.sub(r"[^\w -]", "", heading).strip().replace(" ", "-") for heading in headings}
 
     def mentions(self) -> Iterator[tuple[Passage, Mention]]:
-        """What it names between backticks, each with its passage."""
+        """Yields what it names between backticks, each with its passage."""
         for passage in self.passages:
             yield from ((passage, mention) for mention in passage.mentions())

@@ -1,4 +1,4 @@
-"""What stands in the repository that a document can name: its files and folders, what its crates define and print, the program's commands.
+"""What a document can name: the repository's files and folders, what its crates define and print, and the program's commands.
 
 All of it is read once; nothing is proved or built for it.
 """
@@ -12,7 +12,7 @@ from collections.abc import Iterator
 from gossip.documents.names import NAMES, Definition, Kind, definitions_of, named_in, patterns_of, script_texts_of, texts_of
 
 UNREAD = {".git", "__pycache__"}
-# a line that takes names from elsewhere; traits that code keeps, which are derived or which blocks `impl` name; options of a command
+# an import; the traits that code implements, by `derive` or by an `impl` block; the options of a command
 USES = re.compile(r"^ *(pub )?(?:ghost )?use ([^;\n]+(?:\n[^;\n]+)*?)(?:;|$)", re.MULTILINE)
 DERIVES = re.compile(r"#\[derive\(([^)]*)\)\]")
 KEPT = re.compile(r"^impl\b.*?(\w+)(?:<[^{]*>)? for ", re.MULTILINE)
@@ -20,7 +20,7 @@ OPTIONS = re.compile(r"const (\w+)_OPTIONS: [^=]+= \[([^\]]*)\];")
 
 
 def is_telling(text: str) -> bool:
-    """Whether a script's text is a line or a file's name: more than a word, not mostly filled in, and no path that is filled in."""
+    """Whether a script's text is a line or a file's name: it isn't a lone word or a path to fill in, and isn't mostly filled in."""
     words = re.findall(r"[A-Za-z]{2,}", re.sub(r"\{[^{}]*\}", " ", text))
     is_filled_path = "/" in text and "{" in text and " " not in text
     return re.search(r"\W", text) is not None and not is_filled_path and (len(words) > 1 or text[0].isalpha())
@@ -31,22 +31,22 @@ class Sources:
 
     def __init__(self, root: pathlib.Path) -> None:
         self.root = pathlib.Path(root)
-        # each crate with itself and all that it stands on, and the crates of the toolchain
+        # for each crate, itself and all crates below it; and the crates of the toolchain
         self.crates: dict[str, frozenset[str]] = {}
         self.ported: set[str] = set()
-        # the crates that each crate names, among other names
+        # the names that each crate uses, among them those of crates
         self.named: dict[str, set[str]] = collections.defaultdict(set)
         self.definitions: dict[str, list[Definition]] = collections.defaultdict(list)
-        # what each crate hands on of the crates below it
+        # the names that each crate re-exports
         self.published: dict[str, set[str]] = collections.defaultdict(set)
-        # names of the toolchain's libraries, and what other names for modules stand for
+        # the names of the toolchain's libraries, and what the aliases of modules stand for
         self.library: set[str] = set()
         self.aliases: dict[str, set[str]] = collections.defaultdict(set)
-        # the texts of the crates, and the lines and names of files in the scripts' texts
+        # the string literals of the crates; the lines and the names of files among those of the scripts
         self.texts: set[str] = set()
         self.script_texts: set[str] = set()
         self.commands: dict[str, list[str]] = {}
-        # each end of the path of a file or folder, with and without its ending, and the crates that have one
+        # each suffix of the path of a file or folder, with and without its extension, and the crates that have one
         self.paths: dict[str, set[str]] = collections.defaultdict(set)
         self.ignored = [line for line in self.lines_of(".gitignore") if "/" in line]
         self.read_crates()
@@ -74,14 +74,14 @@ class Sources:
                 self.read_file(path, parts)
 
     def entries(self) -> Iterator[pathlib.Path]:
-        """The files and folders of the repository, but those that git ignores."""
+        """Yields the files and folders of the repository, except `.git`, `__pycache__` and what git ignores."""
         for name, folders, files in os.walk(self.root):
             folder = pathlib.Path(name)
             folders[:] = [each for each in folders if each not in UNREAD and not self.is_ignored(folder / each)]
             yield from (folder / each for each in (*folders, *files))
 
     def is_ignored(self, path: pathlib.Path) -> bool:
-        """Whether git ignores it or a folder above it, where what that folder is for is there."""
+        """Whether git ignores a path or a folder above it. What is ignored must be in a folder that exists."""
         parts = path.relative_to(self.root).parts
         fronts = ["/".join(parts[:count]) + "/" for count in range(1, len(parts) + 1)]
         return any(fnmatch.fnmatch(front, line) and (self.root / front).parent.is_dir() for front in fronts for line in self.ignored)
@@ -94,7 +94,7 @@ class Sources:
             self.paths[os.path.splitext(end)[0]].add(crate)
 
     def read_file(self, path: pathlib.Path, parts: tuple[str, ...]) -> None:
-        """Takes what a file of a crate defines and prints, an edit's name, or a script's texts."""
+        """Indexes what a file of a crate defines and prints, the name of an edit, or the texts of a script."""
         kind = Kind.MODULE if path.suffix in NAMES else Kind.EDIT if path.suffix == ".edit" else None
         if parts[0] == "crates" and kind:
             self.definitions[path.stem].append(Definition(path.stem, kind, parts[1], frozenset(parts[1:-1])))
@@ -118,7 +118,7 @@ class Sources:
             self.commands |= {name.lower(): re.findall(r'"([^"]+)"', options) for name, options in OPTIONS.findall(text)}
 
     def read_uses(self, text: str, crate: str) -> None:
-        """Takes the names that a file takes from the toolchain's libraries, hands on, or calls otherwise."""
+        """Indexes the names that a file imports from the toolchain's libraries, re-exports, or gives an alias."""
         for public, used in USES.findall(text):
             words = re.findall(r"[\w-]+", used)
             if public:
@@ -130,12 +130,12 @@ class Sources:
         self.library.update(KEPT.findall(text), *(re.findall(r"\w+", names) for names in DERIVES.findall(text)))
 
     def scripts(self) -> list[str]:
-        """The scripts of tools/."""
+        """Returns the scripts of tools/."""
         paths = (path for path in (self.root / "tools").iterdir() if path.is_file() and not path.suffix)
         return sorted(f"tools/{path.name}" for path in paths if os.access(path, os.X_OK))
 
     def prints(self, text: str) -> bool:
-        """Whether a text has this line: as it stands, with parts filled in, in two parts, or with a number or what stands for one."""
+        """Whether a text has this line: exactly, with parts filled in, in two parts, or before a number or a placeholder."""
         cuts = [place for place, letter in enumerate(text) if letter == " "]
         return (
             text in self.texts

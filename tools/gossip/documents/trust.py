@@ -1,8 +1,9 @@
 """docs/TRUST.md: the definitions on which the headline rests, in the order in which to read them, and what isn't among them.
 
-The headline is the type of two fields of the record that the clause `ruled` of `bar_run` names. What it rests on is what the definitions
-there use, and what these use in turn. No definition uses one of a later file. The rest of the crates' definitions are sorted by what they
-are for: other claims of `bar_run`, the link to the real outside, models of the program's own structures, and laws that other calls carry.
+The headline is the type of two fields of the record that the clause `ruled` of `bar_run` names. It rests on the definitions that this type
+uses, and on those that these use in turn. No definition uses one of a later file. The rest of the crates' definitions are sorted by what
+they are for: other claims of `bar_run`, the link to the real outside, models of the program's own structures, and laws and the claims of
+other calls.
 """
 import collections
 import collections.abc
@@ -16,10 +17,10 @@ import re
 from gossip.documents.definitions import Definition, Definitions, File, clauses_of
 
 PAGE = "docs/TRUST.md"
-# between these lines of the page stands what is made from the sources
+# between these lines of the page is what is made from the sources
 FIRST, LAST = "<!-- from here on made by tools/list-definitions --write -->", "<!-- up to here -->"
 
-# where the headline stands: the call, its clause, the record that this names, and the fields of it that are the headline
+# where the headline is found: the call, its clause, the record that this names, and the fields of the record that are the headline
 CALL = "crates/bar_cli/src/run.rt"
 CLAUSE = re.compile(r"ensures ruled \{(.*?)\}$", re.MULTILINE | re.DOTALL)
 RECORD, FIELDS = "ByTheRules", ("peer_headline", "replay_headline")
@@ -42,44 +43,10 @@ PARTS = {
     "The command line and the headline": ["bar_arguments/*", "bar_child_processes/*", "bar_cli/*"],
 }
 
-# Files about code, crate by crate: what the program's own structures represent, and what its functions do with them. The headline reaches
-# no definition of theirs.
-CODE = {
-    "bar_bytes": ("Held Putting Room Rooms Sized Written", "writers, rooms for bytes, hashes in the making"),
-    "bar_window": ("Window", "a window as words of flags"),
-    "bar_lanes": ("*", "eight hashes side by side"),
-    "bar_lms": ("Lanes Order Remembered", "chains in lanes, and what is remembered of signatures"),
-    "bar_seal": ("Memo Places", "a memo of what was checked"),
-    "bar_seeds": ("Checkpoints", "the last seed of each peer"),
-    "bar_terms": ("Known Room Windows", "tables as the code keeps them"),
-    "bar_wire": ("Headers Reading Sides Terms Views Windows Words Writing", "datagrams as they are read and written in place"),
-    "bar_record": ("Inputs Items", "recordings as iterators"),
-    "bar_store": ("*", "held blocks and manifests"),
-    "bar_ledger": ("*", "exchanges in slots"),
-    "bar_exchange": ("*", "orders, and what is written and kept of an exchange"),
-    "bar_balanced": ("*", "what functions of balanced exchanges require"),
-    "bar_push": ("*", "what functions of pushes require and answer"),
-    "bar_judge": ("Parts TableViews Verdicts", "parts of datagrams, table files and verdicts in the code"),
-    "bar_core": ("Face Orders", "what is seen of a core, and orders that are left"),
-    "bar_caster": ("*", "a broadcaster's memory and orders"),
-    "bar_peer": (
-        "Arrivals Checking Evictions Giving Hearing Ignoring Memory Opening Orders Playing Repeats Runs Searching Sending StandsFor Steps"
-        " Telling Ticking Time Trying",
-        "a peer's memory, orders, guard and searches",
-    ),
-    "bar_rules": ("Giving", "how a party gives out what it sends"),
-    "bar_node": ("Counting Effects Taking Turns", "counts, actions and turns of a run"),
-    "bar_audit": ("Balance Findings Found Given Shown Sides", "what an auditor keeps of recordings"),
-    "bar_outside": (
-        "Causes Children Faults Follows MemCalls MemFiles MemLink MemSink MemSpawner MemTaken OpenChildren Schedule",
-        "an outside in memory, its faults, and lists of actions",
-    ),
-    "bar_world": ("Cores Given Held Kept Moves Packets Playing Setups Shown Texts", "what the code of the simulation keeps"),
-    "bar_child_processes": ("Views", "names and reports in the code"),
-    "bar_party_commands": ("Views", "names in the code"),
-    "bar_cli": ("Views Replay/Turns", "commands in the code"),
-}
-# crates of the real outside: what their histories of calls represent
+# the folder of a crate's specs/ with the definitions about code: what the program's own structures represent, and what its functions do
+# with them. The headline reaches none of them.
+CODE = "Code"
+# the crates of the real outside, which define what their histories of calls represent
 OUTSIDE = ("bar_system", "bar_told", "bar")
 
 # the sorts of definitions, with what the page says of each
@@ -94,18 +61,16 @@ SAID = {
 
 
 def subject_of(definition: Definition) -> str:
-    """The file of a definition as its crate and its name in specs/, without the ending."""
+    """Returns the file of a definition as its crate and its name in specs/, without the extension."""
     return definition.place.file.removeprefix("crates/").replace("/specs/", "/").removesuffix(".antt")
 
 
 def is_about_code(definition: Definition) -> bool:
-    crate, _, name = subject_of(definition).partition("/")
-    names = CODE.get(crate, ("", ""))[0].split()
-    return "*" in names or name in names
+    return subject_of(definition).split("/")[1] == CODE
 
 
 def part_of(definition: Definition) -> str:
-    """The part of the reading in which a definition stands."""
+    """Returns the part of the reading that contains a definition."""
     for part, patterns in PARTS.items():
         if any(fnmatch.fnmatchcase(subject_of(definition), pattern) for pattern in patterns):
             return part
@@ -113,7 +78,7 @@ def part_of(definition: Definition) -> str:
 
 
 def link_to(definition: Definition) -> str:
-    """A link to the line of a definition, from the page."""
+    """Returns a link from the page to the line of a definition."""
     name = definition.place.file.removeprefix("crates/")
     return f"[{name}:{definition.place.first}](../{definition.place.file}#L{definition.place.first})"
 
@@ -134,7 +99,7 @@ class Trust:
         return self.named_by_call()[RECORD]
 
     def named_by_call(self) -> dict[str, Definition]:
-        """The definitions that the clause names, by the import lists of the call's file."""
+        """Returns the definitions that the clause names, by name, found by the import lists of the call's file."""
         text = (self.definitions.root / CALL).read_text(encoding="utf-8")
         clause = CLAUSE.search(text)
         if clause is None:
@@ -147,7 +112,7 @@ class Trust:
 
     @functools.cached_property
     def headline(self) -> set[Definition]:
-        """What the headline rests on: the two fields of the record, and what else the clause names."""
+        """The definitions on which the headline rests: what the two fields of the record use, and what else the clause names."""
         roots = {each for name, each in self.named_by_call().items() if name != RECORD}
         for field in clauses_of(self.record.text):
             name = field.removeprefix("  pub ").partition(" ")[0]
@@ -157,7 +122,7 @@ class Trust:
 
     @functools.cached_property
     def calls(self) -> set[Definition]:
-        """What all clauses of the call rest on."""
+        """The definitions on which all clauses of the call rest: those in the record's file, and what they use."""
         return self.definitions.reached_from(self.definitions.file_of(self.record).own.values())
 
     def sort_of(self, definition: Definition) -> str:
@@ -170,7 +135,7 @@ class Trust:
         return MODELS if is_about_code(definition) else LAW
 
     def in_order(self) -> list[tuple[str, list[Definition]]]:
-        """The definitions of the headline, file by file, each after those that it uses; of each file its part."""
+        """Returns the part and the definitions of each file of the headline: by parts, and in a part each file after those that it uses."""
         files: dict[str, list[Definition]] = collections.defaultdict(list)
         for each in sorted(self.headline, key=lambda each: each.place.first):
             if not each.is_of_code:
@@ -183,7 +148,7 @@ class Trust:
         return [(part_of(files[name][0]), files[name]) for name in ordered]
 
     def put(self, name: str, files: dict[str, list[Definition]], ordered: list[str]) -> None:
-        """Puts a file behind those of its own part that it uses."""
+        """Appends a file after those of its own part that it uses."""
         if name in ordered:
             return
         part = part_of(files[name][0])
@@ -203,7 +168,7 @@ def counted_lines(definitions: collections.abc.Iterable[Definition]) -> str:
 
 
 def comment_of(root: pathlib.Path, name: str) -> str:
-    """What a file says of itself: its first sentence."""
+    """Returns the first sentence of the comment at the head of a file."""
     lines = (root / name).read_text(encoding="utf-8").splitlines()
     text = " ".join(line[2:].strip() for line in itertools.takewhile(lambda line: line.startswith("--"), lines))
     sentence = re.match(r".+?[.:](?= [A-Z]|$)", text)
@@ -215,7 +180,7 @@ def name_of(definition: Definition) -> str:
 
 
 def lines_of_fields(trust: Trust) -> collections.abc.Iterator[str]:
-    """The parts of the headline: each field of its record, and the definitions that it is made of."""
+    """Yields the table of the headline's parts: each field of its record, and the definitions that it is made of."""
     record = next(each for each in trust.headline if each.name == PARTS_RECORD)
     yield f"`{PARTS_RECORD}` ({link_to(record)}) has a field for each part of the headline."
     yield ""
@@ -230,7 +195,7 @@ def lines_of_fields(trust: Trust) -> collections.abc.Iterator[str]:
 
 
 def lines_of_reading(trust: Trust) -> collections.abc.Iterator[str]:
-    """The definitions on which the headline rests, file by file, in the order in which to read them."""
+    """Yields the list of definitions on which the headline rests, file by file, in the order in which to read them."""
     count, last = 0, ""
     for part, definitions in trust.in_order():
         if part != last:
@@ -242,7 +207,7 @@ def lines_of_reading(trust: Trust) -> collections.abc.Iterator[str]:
 
 
 def lines_of_types(trust: Trust) -> collections.abc.Iterator[str]:
-    """The types of the code that the headline names, by their fields and variants alone."""
+    """Yields the list of the types of the code that the headline names, of which only the fields and variants count."""
     types = sorted((each for each in trust.headline if each.is_of_code), key=lambda each: (each.place.file, each.place.first))
     yield f"They name {len(types)} structs and enums of the code, of which only the fields and variants count:"
     yield ""
@@ -250,7 +215,7 @@ def lines_of_types(trust: Trust) -> collections.abc.Iterator[str]:
 
 
 def lines_of_kit(trust: Trust) -> collections.abc.Iterator[str]:
-    """The names that the definitions take from the kit, module by module."""
+    """Yields the list of names that the definitions take from the kit, module by module."""
     taken: dict[str, set[str]] = collections.defaultdict(set)
     for each in trust.headline:
         for module, name in trust.definitions.taken_by(each):
@@ -265,8 +230,13 @@ def lines_of_kit(trust: Trust) -> collections.abc.Iterator[str]:
     yield f"- and {proofs} lemmas, in definitions that decide a property and prove that they do"
 
 
+def about_code(root: pathlib.Path, head: pathlib.Path) -> str:
+    """Returns what a crate's definitions about code are about, by the comment at the head of their folder's module."""
+    return comment_of(root, head.relative_to(root).as_posix()).removeprefix("Definitions about code: ").removesuffix(".")
+
+
 def lines_of_rest(trust: Trust) -> collections.abc.Iterator[str]:
-    """How many definitions of each crate are of which sort, and which files are about code."""
+    """Yields tables of how many definitions of each sort a crate has, and of the files about code."""
     every = trust.definitions.all()
     counts = collections.Counter((each.crate, trust.sort_of(each)) for each in every)
     crates = sorted({each.crate for each in every})
@@ -279,14 +249,15 @@ def lines_of_rest(trust: Trust) -> collections.abc.Iterator[str]:
     for crate in crates:
         yield f"| {crate} | {' | '.join(str(counts[crate, sort] or '') for sort in SORTS)} |"
     yield f"| all | {' | '.join(str(sum(counts[crate, sort] for crate in crates)) for sort in SORTS)} |"
-    yield from ("", "These files are about code, and the headline reaches no definition in them:", "")
-    yield from ("| crate | files of specs/ | what they are about |", "|---|---|---|")
-    for crate, (names, about) in CODE.items():
-        yield f"| {crate} | {'all' if names == '*' else names.replace(' ', ', ')} | {about} |"
+    yield from ("", f"The folders specs/{CODE} are about code, and the headline reaches no definition in them:", "")
+    yield from ("| crate | files | what they are about |", "|---|---|---|")
+    for head in sorted(trust.definitions.root.glob(f"crates/*/specs/{CODE}.antt")):
+        names = ", ".join(sorted(path.stem for path in (head.parent / CODE).rglob("*.antt")))
+        yield f"| {head.parts[-3]} | {names} | {about_code(trust.definitions.root, head)} |"
 
 
 def made(trust: Trust) -> list[str]:
-    """What the page has between its two marks."""
+    """Returns the lines of the page from its first mark to its second one."""
     read = [each for each in trust.headline if not each.is_of_code]
     files = {each.place.file for each in read}
     return [
@@ -315,18 +286,14 @@ def made(trust: Trust) -> list[str]:
 
 
 def faults_of_code(trust: Trust) -> collections.abc.Iterator[str]:
-    """What is wrong with the table of files about code: the headline reaches one, or there is none of a name."""
+    """Yields a fault for each definition about code that the headline reaches."""
     for each in sorted(trust.headline, key=lambda each: str(each.place)):
         if is_about_code(each) and not each.is_of_code:
-            yield f"{each.place}: the headline reaches `{each.name}`, which tools/gossip/documents/trust.py lists as about code"
-    for crate, (names, _) in CODE.items():
-        for name in names.split():
-            if name != "*" and not (trust.definitions.root / "crates" / crate / "specs" / f"{name}.antt").exists():
-                yield f"crates/{crate}/specs has no {name}.antt, which tools/gossip/documents/trust.py lists as about code"
+            yield f"{each.place}: the headline reaches `{each.name}`, which is in specs/{CODE}, about code"
 
 
 def with_made(text: str, lines: list[str]) -> str:
-    """The page with these lines between its two marks."""
+    """Returns the page with these lines in place of those from its first mark to its second one."""
     before, mark, rest = text.partition(FIRST)
     _, end, after = rest.partition(LAST)
     if not mark or not end:
@@ -335,7 +302,7 @@ def with_made(text: str, lines: list[str]) -> str:
 
 
 def faults_of_page(root: pathlib.Path) -> collections.abc.Iterator[tuple[int, str]]:
-    """What is wrong with the page: of each fault the line and what it is. A repository without the call has no page."""
+    """Yields the faults of the page, each with its line. A repository without the call has no page."""
     if not (root / CALL).exists():
         return
     trust = Trust.of(root)
@@ -345,7 +312,7 @@ def faults_of_page(root: pathlib.Path) -> collections.abc.Iterator[tuple[int, st
     is_now, is_to_be = text.splitlines(), with_made(text, made(trust)).splitlines()
     for number, (now, line) in enumerate(zip(is_now, is_to_be), 1):
         if now != line:
-            yield number, "it isn't what the sources say: `tools/list-definitions --write` makes it anew"
+            yield number, "it isn't what the sources say: `tools/list-definitions --write` updates it"
             return
     if len(is_now) != len(is_to_be):
-        yield min(len(is_now), len(is_to_be)), "it isn't what the sources say: `tools/list-definitions --write` makes it anew"
+        yield min(len(is_now), len(is_to_be)), "it isn't what the sources say: `tools/list-definitions --write` updates it"

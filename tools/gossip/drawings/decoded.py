@@ -1,4 +1,4 @@
-"""What decodes of a video, and of what peers played of it: `video.json`, which docs/FORMATS.md describes, beside the run's own data."""
+"""Reads and writes `video.json`, which docs/FORMATS.md describes: what decodes of a video, and of what each peer played of it."""
 import base64
 import dataclasses
 import json
@@ -9,7 +9,7 @@ from gossip.sessions.session_folder import Folder
 
 @dataclasses.dataclass(frozen=True)
 class Seen:
-    """What decodes of a file: how many frames, the still as JPEG, and the second of that; no still where no frame is due by its moment."""
+    """What decodes of a file: how many frames, the still as JPEG, and the second of the still. If no frame was due, there is no still."""
 
     frames: int
     still: bytes = b""
@@ -17,12 +17,12 @@ class Seen:
 
     @property
     def picture(self) -> str:
-        """The still as an address."""
+        """The still as a data URL."""
         return f"data:image/jpeg;base64,{self.row[1]}"
 
     @property
     def row(self) -> list[int | str | float]:
-        """All of it as JSON has it: the still in base64."""
+        """All fields as JSON has them, with the still in base64."""
         return [self.frames, base64.b64encode(self.still).decode(), self.second]
 
     @classmethod
@@ -53,5 +53,5 @@ class Video:
 
 
 def video_in(folder: Folder) -> Video | None:
-    """What decodes of the video of a folder, if its stream was one and that is known."""
+    """Returns what decodes of the video of a folder, or `None` if the folder has no video.json."""
     return Video.of_json(folder.video.read_text("utf-8")) if folder.video.exists() else None

@@ -1,7 +1,8 @@
-"""Draws a session as one picture: rounds across, a row for each peer, a sign for each side of an exchange, a mark for each update.
+"""Draws a session as one picture: a column for each round, a row for each peer, and signs for exchanges and updates.
 
-It is drawn of a run's data alone. An exchange that an audit found unbalanced has a red frame. A legend stands below, and all of it on a
-ground of its own, in colours that need no style of the page around it.
+It is drawn from a run's data alone. A sign stands for one side of an exchange, and a mark for an update. An exchange that an audit found
+unbalanced has a red frame. A legend is below. The picture has its own background and its own colours, so it needs no style of the page
+around it.
 """
 import collections
 import dataclasses
@@ -15,7 +16,7 @@ from gossip.reports.debts import Debt, debt_of
 from gossip.reports.run_data import BLOCK_WAY, ExchangeName, PeerRow, ReleaseRow, Run, SideRow, UpdateRow
 from gossip.scripts.console import counted
 
-# a call that draws at a place, and rows and what they are told apart by
+# a function that draws at a position; rows, and the keys that they are grouped by
 Drawer = Callable[[float, float], str]
 Row, Key = typing.TypeVar("Row"), typing.TypeVar("Key")
 
@@ -23,7 +24,7 @@ Row, Key = typing.TypeVar("Row"), typing.TypeVar("Key")
 
 
 def tag(name: str, *inside: str, **attributes: float | str) -> str:
-    """An element. An underscore in an attribute's name stands for a dash, but at its end."""
+    """Returns an element. An underscore in an attribute's name stands for a dash, and is dropped at the end of the name."""
     said = "".join(f' {key.rstrip("_").replace("_", "-")}="{value}"' for key, value in attributes.items())
     return f"<{name}{said}>{''.join(inside)}</{name}>"
 
@@ -42,7 +43,7 @@ class Box:
     height: float
 
     def drawn(self, class_: str, told: str = "", corner: float = 0) -> str:
-        """The rectangle, with words that show where one points at it."""
+        """Returns the rectangle, with a tooltip if a text is given."""
         title = tag("title", told) if told else ""
         place = {"x": f"{self.x:.1f}", "y": f"{self.y:.1f}", "width": f"{self.width:.1f}", "height": self.height}
         return tag("rect", title, **place, rx=corner, class_=class_)
@@ -53,19 +54,19 @@ def line(x1: float, y1: float, x2: float, y2: float, class_: str = "rule") -> st
 
 
 def arrow(x: float, y: float, up: bool) -> str:
-    """A small triangle, whose middle is at x and whose upper edge is at y."""
+    """Returns a small triangle, with its middle at x and its upper edge at y."""
     points = (x - 4, y + 4.5, x + 4, y + 4.5, x, y) if up else (x - 4, y, x + 4, y, x, y + 4.5)
     return tag("path", d="M{:.1f} {:.1f}L{:.1f} {:.1f}L{:.1f} {:.1f}Z".format(*points), class_="key")
 
 
 def items(updates: int, junk: int) -> str:
-    """How many updates and junk items are promised, in words."""
+    """Returns in words how many updates and junk items are promised."""
     words = [counted(updates, "update") if updates else "", counted(junk, "junk item") if junk else ""]
     return " and ".join(word for word in words if word)
 
 
 def told_of(side: SideRow, debt: Debt | None, is_unbalanced: bool, had_nothing: bool) -> str:
-    """What one side of an exchange came to, in words, and its partner's debt, if there was one."""
+    """Returns in words what one side of an exchange came to, and its partner's debt, if there was one."""
     ways = {"balanced": ("is asked by", "asks"), "push": ("is offered by", "offers to")}
     way = ways[side.kind][side.asks]
     end = "nothing to trade" if had_nothing else "no answer" if side.asks and not side.answered else "nothing came of it"
@@ -81,7 +82,7 @@ def told_of(side: SideRow, debt: Debt | None, is_unbalanced: bool, had_nothing: 
 
 @dataclasses.dataclass(frozen=True)
 class Sign:
-    """The sign of one side of an exchange: the number in it, its classes, whether the peer paid and was paid, and the words for it."""
+    """The sign of one side of an exchange: its number, its classes, whether the peer paid and was paid, and its tooltip."""
 
     partner: int
     classes: Sequence[str]
@@ -90,7 +91,7 @@ class Sign:
     told: str = ""
 
     def drawn(self, x: float, y: float, seats: "Seats") -> str:
-        """The sign at a place, between its two arrows."""
+        """Returns the sign at a position, with an arrow above if the peer paid, and one below if it was paid."""
         middle = x + seats.sign / 2
         inside = [tag("title", self.told)] if self.told else []
         inside.append(Box(x + 0.5, y + 6.5, seats.sign - 1, 13).drawn("sign", corner=3.5))
@@ -101,7 +102,7 @@ class Sign:
 
 
 def token(chart: "Chart", x: float, y: float, side: SideRow) -> str:
-    """The sign of one side of an exchange in the drawing."""
+    """Returns the sign of one side of an exchange in the drawing."""
     is_unbalanced = side.exchange in chart.unbalanced
     classes = [side.kind, "asks" if side.asks else "asked", "traded" if side.promised else "idle"]
     classes += ["unbalanced"] if is_unbalanced else []
@@ -115,17 +116,17 @@ WIDTH, LABELS, TOTALS = 1160, 84, 76
 MOST_COLUMNS = 17
 HEAD, CASTER, LANE = 26, 34, 86
 STRIP = 55
-# what stands between the drawing and the edge of its ground, and in the legend between entries
+# the margin between the drawing and the edge of its background, and the space between entries of the legend
 EDGE, BETWEEN = 14, 22
-# how many marks stand in a row at most
+# the most marks in a row
 MOST_MARKS = 32
 
 
 @dataclasses.dataclass(frozen=True)
 class Seats:
-    """How wide a sign is, where the signs stand in a column, and the class of the number in one.
+    """The width of a sign, the positions of the signs in a column, and the class of a sign's number.
 
-    The first seat is that of the exchange that a peer starts, the others are those of the two in which it answers.
+    The first position is for the exchange that a peer starts, the others are for the two in which it answers.
     """
 
     sign: float
@@ -133,13 +134,13 @@ class Seats:
     class_: str
 
 
-# by whether partners have numbers of three digits
+# by whether the numbers of partners may have three digits
 SEATS = {False: Seats(16, (2.5, 21.5, 39.5), "partner"), True: Seats(18.5, (0, 20, 39.5), "partner long")}
 
 
 @dataclasses.dataclass
 class Chart:
-    """A run, of which some rounds are drawn."""
+    """A run, and the rounds of it that are drawn."""
 
     run: Run
     rounds: range
@@ -153,7 +154,7 @@ class Chart:
         return LABELS + self.column * len(self.rounds)
 
     def columns(self) -> list[tuple[int, float]]:
-        """Each round with the left edge of what is drawn in its column."""
+        """Returns each round with the left edge of what is drawn in its column."""
         pad = (self.column - STRIP - 4) / 2
         return [(number, LABELS + self.column * at + pad) for at, number in enumerate(self.rounds)]
 
@@ -192,12 +193,12 @@ class Chart:
         return SEATS[self.run.session["peers"] > 99]
 
     def part(self, peer: PeerRow) -> str:
-        """Which part of the stream a peer played."""
+        """Returns the share of the stream that a peer played."""
         return f"{peer.bytes_played / self.run.stream:.1%}" if self.run.stream else "–"
 
 
 def by_key(rows: Iterable[Row], key: Callable[[Row], Key]) -> dict[Key, list[Row]]:
-    """Rows by what a key says of each."""
+    """Returns the rows grouped by a key."""
     found = collections.defaultdict(list)
     for row in rows:
         found[key(row)].append(row)
@@ -205,7 +206,7 @@ def by_key(rows: Iterable[Row], key: Callable[[Row], Key]) -> dict[Key, list[Row
 
 
 def marks(x: float, y: float, classes: list[tuple[str, str]]) -> list[str]:
-    """A row of marks, one an update, each with its class and its words; where they are many, rows of low marks about the same middle."""
+    """Returns a row of marks, one for each update, with its class and tooltip. If there are many, they form rows of lower marks."""
     rows = -(-len(classes) // MOST_MARKS) or 1
     columns = max(8, -(-len(classes) // rows))
     step, (pitch, gap, corner) = STRIP / columns, (10, 1, 1) if rows == 1 else (3.6, 0.6, 0)
@@ -216,7 +217,7 @@ def marks(x: float, y: float, classes: list[tuple[str, str]]) -> list[str]:
 
 
 def mark_of(chart: Chart, peer: PeerRow, release: ReleaseRow) -> tuple[str, str]:
-    """The class and words of an update that a peer has played or not."""
+    """Returns the class and the tooltip of the mark of an update, which a peer has played or not."""
     name, row = f"update {release.index + 1} of round {release.round}", chart.arrivals.get((peer.peer, release.round, release.index))
     if row is None or not row.played:
         return "missed", f"{name}: {'has nothing to play' if row else 'not played'}"
@@ -226,7 +227,7 @@ def mark_of(chart: Chart, peer: PeerRow, release: ReleaseRow) -> tuple[str, str]
 
 
 def tokens(chart: Chart, peer: PeerRow, number: int, x: float, y: float) -> Iterator[str]:
-    """The signs of the exchanges of a round: a line for the balanced ones, and one for the pushes."""
+    """Yields the signs of a round's exchanges: a line for the balanced ones, and one for the pushes."""
     for line_, kind in enumerate(("balanced", "push")):
         sides = [side for side in chart.sides.get((peer.peer, number), []) if side.kind == kind]
         own, others = [side for side in sides if side.asks], [side for side in sides if not side.asks]
@@ -235,13 +236,13 @@ def tokens(chart: Chart, peer: PeerRow, number: int, x: float, y: float) -> Iter
 
 
 def alarm(x: float, y: float, told: str = "") -> str:
-    """The sign of evidence that is sent to the broadcaster."""
+    """Returns the sign of evidence that is sent to the broadcaster."""
     title = [tag("title", told)] if told else []
     return tag("g", *title, tag("circle", cx=f"{x:.1f}", cy=y, r=6), text(x, y + 3.5, "!", "partner"), class_="alarm")
 
 
 def cell(chart: Chart, peer: PeerRow, number: int, x: float, y: float) -> list[str]:
-    """One peer's round."""
+    """Returns what is drawn for one peer's round."""
     parts = list(tokens(chart, peer, number, x, y))
     if peer.ticks > SLOTS * (number - 1):
         due = chart.releases.get(number - chart.run.session["life"], [])
@@ -252,7 +253,7 @@ def cell(chart: Chart, peer: PeerRow, number: int, x: float, y: float) -> list[s
 
 
 def stopped(chart: Chart, peer: PeerRow, y: float) -> list[str]:
-    """A veil over the rounds that a peer didn't run through."""
+    """Returns a veil over the rounds that a peer didn't run through, if there are any."""
     start = max(LABELS, LABELS + chart.column * (peer.ticks / SLOTS - chart.rounds[0] + 1))
     if start > chart.right - 0.1:
         return []
@@ -262,7 +263,7 @@ def stopped(chart: Chart, peer: PeerRow, y: float) -> list[str]:
 
 
 def lane(chart: Chart, peer: PeerRow, y: float) -> list[str]:
-    """One peer's row."""
+    """Returns one peer's row."""
     lines = ((22, "asks", "label blue"), (51, "offers", "label amber"), (77, "plays", "label"))
     labels = [text(10, y + 30, "peer", "label left"), *(text(LABELS - 10, y + at, said, class_) for at, said, class_ in lines)]
     totals = [text(WIDTH - 4, y + 40, chart.part(peer), "total"), text(WIDTH - 4, y + 56, "played", "label")]
@@ -271,7 +272,7 @@ def lane(chart: Chart, peer: PeerRow, y: float) -> list[str]:
 
 
 def caster_lane(chart: Chart, y: float) -> list[str]:
-    """The broadcaster's row: how many peers took each update from it."""
+    """Returns the broadcaster's row: how many peers took each update from it."""
     parts = [line(0, y, WIDTH, y), text(10, y + 21, "broadcaster", "label left")]
     for number, x in chart.columns():
         heard = [release.straight for release in chart.releases.get(number, [])]
@@ -282,7 +283,7 @@ def caster_lane(chart: Chart, y: float) -> list[str]:
 
 @dataclasses.dataclass(frozen=True)
 class Entry:
-    """What the legend tells: the width of what is drawn, a call that draws it, and the words."""
+    """An entry of the legend: the width of what is drawn, a function that draws it, and the text."""
 
     width: float
     drawn: Drawer
@@ -290,17 +291,17 @@ class Entry:
 
 
 def sign_entry(told: str, *classes: str, paid: bool = False, was_paid: bool = False) -> Entry:
-    """A sign of the legend."""
+    """Returns the entry of the legend for a sign."""
     return Entry(16, lambda x, y: Sign(3, classes, paid, was_paid).drawn(x, y, SEATS[False]), told)
 
 
 def mark_entry(told: str, class_: str) -> Entry:
-    """A mark of the legend."""
+    """Returns the entry of the legend for a mark."""
     return Entry(6, lambda x, y: Box(x, y + 8.5, 6, 9).drawn(class_, corner=1), told)
 
 
 def legend_entries(chart: Chart) -> Iterator[Entry]:
-    """What the legend tells."""
+    """Yields the entries of the legend."""
     yield sign_entry("asks peer 3 for a balanced exchange", "balanced", "asks")
     yield sign_entry("is asked by peer 3", "balanced", "asked")
     yield sign_entry("offers updates to peer 3", "push", "asks")
@@ -318,10 +319,10 @@ def legend_entries(chart: Chart) -> Iterator[Entry]:
 
 
 def legend(chart: Chart, y: float) -> tuple[list[str], float]:
-    """The legend from this height on, in as many lines as it needs, and the height at which it ends."""
+    """Returns the legend from this height on, in as many lines as it needs, and the height at which it ends."""
     parts, x = [], 10
     for entry in legend_entries(chart):
-        # the words are as wide as an upright sans-serif has them, or a little less
+        # an estimate: the text is about as wide as in an upright sans-serif font, or a little narrower
         whole = entry.width + 7 + 5.7 * len(entry.told)
         if x + whole > WIDTH:
             x, y = 10, y + 32
@@ -331,7 +332,7 @@ def legend(chart: Chart, y: float) -> tuple[list[str], float]:
 
 
 def panel(chart: Chart) -> str:
-    """A drawing of so many rounds as stand beside each other, on its ground, with the legend below."""
+    """Returns the drawing of a chart's rounds side by side on a background, with the legend below."""
     peers = [peer for peer in chart.run.peers if not peer.refused]
     height = HEAD + CASTER + LANE * len(peers)
     edges = [LABELS + chart.column * at for at in range(len(chart.rounds) + 1)]
@@ -353,7 +354,7 @@ def panel(chart: Chart) -> str:
 
 FONT = 'Inter, system-ui, -apple-system, "Segoe UI", "Helvetica Neue", Arial, sans-serif'
 
-# the colours of a drawing, which a viewer may not be asked to look up
+# the colours of a drawing: `style` inserts them, so that a viewer needs no variables
 COLOURS = {"INK": "#1d2733", "SOFT": "#5a6673", "RULE": "#d3dae1", "FAINT": "#edf0f3", "GREY": "#8593a1", "BLUE": "#2b67a8"}
 COLOURS |= {"AMBER": "#a85f08", "GREEN": "#1f7f5a", "ALARM": "#b23434", "FONT": FONT}
 
@@ -375,11 +376,11 @@ DRAWING_STYLE = """
 
 
 def style() -> str:
-    """The style of a drawing, with its colours."""
+    """Returns the style of a drawing, with its colours."""
     return functools.reduce(lambda told, name: told.replace(name, COLOURS[name]), COLOURS, DRAWING_STYLE)
 
 
 def picture(run: Run) -> str:
-    """The drawing of a run's first rounds, as an SVG file."""
+    """Returns the drawing of a run's first rounds, as an SVG file."""
     drawn = panel(Chart(run, range(1, min(MOST_COLUMNS, run.session["ends"]) + 1)))
     return drawn.replace("<svg", '<svg xmlns="http://www.w3.org/2000/svg"', 1).replace(">", f">{tag('style', style())}", 1) + "\n"

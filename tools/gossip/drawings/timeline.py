@@ -1,7 +1,7 @@
-"""Draws a run as one page that needs nothing else: an overview of all peers, and the exchanges of one peer when it is chosen.
+"""Draws a run as one page that needs no other file: an overview of all peers, and the exchanges of one peer when it is chosen.
 
-All of it is the run's data. Figures and tables are in the page as they stand; the script in tools/page draws the overview and a peer's
-exchanges, of the same data in a closer form.
+Everything comes from the run's data. The page itself contains the figures and tables. The script in tools/page draws the overview and a
+peer's exchanges, from the same data in a shorter form.
 """
 import collections
 import dataclasses
@@ -35,10 +35,10 @@ from gossip.scripts.console import counted, listed
 
 PARTS = ROOT / "tools/page"
 
-# up to how many peers all are shown at once
+# the largest number of peers for which all are shown at once
 SMALL = 6
 
-# how many pairs of parties with the most losses are told
+# how many pairs of parties with the most losses are listed
 WORST = 8
 
 WAYS = {BLOCK_WAY: "b", BALANCED_WAY: "x", PUSH_WAY: "p"}
@@ -61,7 +61,7 @@ where it came by a trade; of both ways the first counts.""",
 )
 
 
-# what a cell of a table has
+# the value of a cell of a table
 Cell = int | str
 
 Row = typing.TypeVar("Row", RoundRow, UpdateRow, SideRow)
@@ -72,7 +72,7 @@ def part_of(part: float, whole: float, format_: str = ".1%") -> str:
 
 
 def table(names: Sequence[str], lines: Iterable[Sequence[Cell]], label: str, text: Collection[int] = ()) -> str:
-    """A table that can be moved sideways where it is wide. The columns with these numbers have words."""
+    """Returns a table that scrolls sideways if it is wide. The columns with the numbers in `text` contain text."""
     classes = [{"class_": "text"} if at in text else {} for at in range(len(names))]
     head = tag("tr", *(tag("th", name, scope="col", **more) for name, more in zip(names, classes)))
     rows = [tag("tr", *(tag("td", cell_of(it), **more) for it, more in zip(line, classes))) for line in lines]
@@ -87,7 +87,7 @@ def cell_of(value: Cell) -> str:
 
 
 def ways_of(arrivals: dict[tuple[int, int], UpdateRow], releases: list[ReleaseRow]) -> Iterator[str]:
-    """A letter for each update: how it came. One that wasn't played has a capital letter, one that came too late an l, any other a dot."""
+    """Yields a letter for how each update came: a capital if it wasn't played, `l` if it came too late, a dot if it didn't come."""
     for release in releases:
         row = arrivals.get((release.round, release.index))
         letter = WAYS[row.way] if row and row.in_time else "l" if row else "."
@@ -96,7 +96,7 @@ def ways_of(arrivals: dict[tuple[int, int], UpdateRow], releases: list[ReleaseRo
 
 @dataclasses.dataclass(frozen=True)
 class SideNumbers:
-    """A side of an exchange as the page's script takes it, in the order of these fields. A tick that isn't known is 0."""
+    """A side of an exchange as the page's script reads it, in the order of these fields. A tick that isn't known is 0."""
 
     round: int
     flags: int
@@ -111,7 +111,7 @@ class SideNumbers:
 
 
 def side_of(side: SideRow, debt: Debt | None, is_unbalanced: bool, had_nothing: bool) -> list[int]:
-    """The numbers of a side, and where its partner owed a key the first and the last round of this, and whether it came."""
+    """Returns the numbers of a side. If its partner owed a key, the debt's first and last round follow, and whether it was paid."""
     numbers = SideNumbers(
         side.round,
         flags=(side.kind == "push") + 2 * side.asks + 4 * side.answered + 8 * is_unbalanced + 16 * had_nothing,
@@ -128,7 +128,7 @@ def side_of(side: SideRow, debt: Debt | None, is_unbalanced: bool, had_nothing: 
 
 
 def by_peer(rows: Iterable[Row]) -> dict[int, list[Row]]:
-    """Rows by the peers that they are of."""
+    """Returns the rows grouped by peer."""
     found = collections.defaultdict(list)
     for row in rows:
         found[row.peer].append(row)
@@ -145,7 +145,7 @@ class Rows:
 
 
 def closer(run: Run, peer: PeerRow, rows: Rows) -> dict[str, object]:
-    """What the page's script takes of a peer."""
+    """Returns the data of a peer for the page's script."""
     names = "peer", "lies", "ticks", "started", "answered", "traded"
     told = {name: getattr(peer, name) for name in names} | {"part": part_of(peer.bytes_played, run.stream)}
     if peer.refused:
@@ -166,7 +166,7 @@ def closer(run: Run, peer: PeerRow, rows: Rows) -> dict[str, object]:
 
 
 def data_of(run: Run) -> dict[str, object]:
-    """What the page's script takes."""
+    """Returns the data of a run for the page's script."""
     rows = Rows(run)
     return {
         "session": run.session,
@@ -178,11 +178,11 @@ def data_of(run: Run) -> dict[str, object]:
     }
 
 
-# ---- what stands in the page
+# ---- the contents of the page
 
 
 def subtitle(run: Run) -> str:
-    """The session's numbers, in words."""
+    """Returns the session's numbers, in words."""
     numbers = run.session
     told = [counted(numbers["peers"], "peer"), counted(numbers["rounds"], "round")]
     told += [f"{counted(numbers['per_round'], 'update')} a round, each to {counted(numbers['fanout'], 'peer')}"]
@@ -194,7 +194,7 @@ def subtitle(run: Run) -> str:
 
 
 def figures(run: Run) -> str:
-    """The run in a few numbers."""
+    """Returns the run in a few numbers."""
     replayed = [peer for peer in run.peers if not peer.refused]
     ended = [peer for peer in replayed if peer.ticks >= run.session["ticks"]] or replayed
     parts = [peer.bytes_played / run.stream if run.stream else 0 for peer in ended]
@@ -215,7 +215,7 @@ def figures(run: Run) -> str:
 
 
 def exchanges_told(run: Run) -> tuple[str, str]:
-    """How many of the exchanges in which something was promised ended with both keys, and how many others there were, with the words."""
+    """Returns how many of the exchanges with something to trade ended with both keys, and a text on these and on the others."""
     ends = collections.Counter(endings.ends_of(run).values())
     traded, told = ends[endings.BOTH_KEYS], "exchanges with something to trade ended with both keys given"
     words = {endings.NOTHING: "{:,} had nothing to trade", endings.NO_ANSWER: "{:,} had no answer"}
@@ -225,7 +225,7 @@ def exchanges_told(run: Run) -> tuple[str, str]:
 
 
 def kinds_of(run: Run) -> dict[str, collections.Counter[str]]:
-    """By kind what was sent and taken, and again, what of it was lost, came more often and wasn't sent."""
+    """Returns by kind the sums of the counts of traffic, and how many datagrams came more often than sent or weren't sent."""
     kinds = collections.defaultdict(collections.Counter)
     for row in run.traffic:
         kinds[row.kind].update({name: getattr(row, name) for name in columns_of(TrafficRow)[2:]})
@@ -235,12 +235,12 @@ def kinds_of(run: Run) -> dict[str, collections.Counter[str]]:
 
 
 def losses_of(run: Run) -> tuple[int, int]:
-    """Of how many datagrams it's known whether they were taken, and how many of them were lost."""
+    """Returns how many datagrams are known to be either taken or lost, and how many of these were lost."""
     return sum(row.known for row in run.traffic), sum(row.lost for row in run.traffic)
 
 
 def losses(run: Run) -> list[str]:
-    """The datagrams by kind, and the pairs of parties between which most were lost."""
+    """Returns the section on the datagrams of each kind, and on the pairs of parties between which most were lost."""
     names = ["kind", "sent", "again", "bytes", "taken", "again", "bytes", "lost", "share lost", "came more often", "not sent"]
     columns = "sent", "sent_again", "bytes_sent", "taken", "taken_again", "bytes_taken", "lost"
     lines = []
@@ -257,7 +257,7 @@ def losses(run: Run) -> list[str]:
 
 
 def audited(audit: dict[str, object]) -> str:
-    """What an auditor found."""
+    """Returns a text on what an auditor found."""
     if audit["refused"]:
         return f"The recordings weren’t audited: {audit['refused']}."
     told = f"An auditor, who has the public keys alone, read the {counted(audit['recordings'], 'recording')}"
@@ -274,7 +274,7 @@ def audited(audit: dict[str, object]) -> str:
 
 
 def notes(run: Run) -> list[str]:
-    """Lines on the audit, on replays, and on peers that stand out."""
+    """Returns lines on the audit, on replays, and on peers that stand out."""
     lines = [(audited(run.audit), bool(run.audit["named"]))] if run.audit else []
     agree = f"{run.replays['agree']} of {counted(run.replays['replayed'], 'replay')} agree with what the peers left."
     lines.append((agree, run.replays["agree"] < run.replays["replayed"]))
@@ -293,7 +293,7 @@ def notes(run: Run) -> list[str]:
 
 
 def evidence(run: Run) -> list[str]:
-    """Who was evicted, and the evidence that is kept."""
+    """Returns the sections on who was evicted, and on the evidence that is kept."""
     parts = []
     if run.evictions:
         lines = [[row.party, row.fault or "–", row.round or "–", row.told] for row in run.evictions]
@@ -316,21 +316,21 @@ def exchange_in_words(row: EvidenceRow) -> str:
 
 @dataclasses.dataclass(frozen=True)
 class Column:
-    """A column of the table of peers: its name below the name of its group, its name by itself, and what it has of a peer."""
+    """A column of the table of peers: its group, its name within the group, its full name, and its value for a peer."""
 
     group: str
     name: str
     whole: str
-    # a field of its row, or a call
+    # a field of the peer's row, or a function of this row
     of: str | Callable[[PeerRow], Cell]
 
     def cell(self, peer: PeerRow) -> Cell:
-        """What the column has of a peer."""
+        """Returns the column's value for a peer."""
         return getattr(peer, self.of) if isinstance(self.of, str) else self.of(peer)
 
 
 def peer_columns(run: Run, video: Video | None = None) -> list[Column]:
-    """The columns of the table of peers, of a video with the frames that decode."""
+    """Returns the columns of the table of peers. If there is a video, they include the frames that decode."""
     nothing = endings.with_nothing(run)
     idle = collections.Counter(side.peer for side in run.sides if side.exchange in nothing)
     columns = [
@@ -362,7 +362,7 @@ def peer_columns(run: Run, video: Video | None = None) -> list[Column]:
 
 
 def head_of_peers(columns: list[Column]) -> list[str]:
-    """What stands above the table of peers: groups, and columns with buttons that sort by them."""
+    """Returns the head of the table of peers: the groups, and the columns with buttons that sort by them."""
     groups = [(group, len([*of])) for group, of in itertools.groupby(columns, lambda column: column.group)]
     spans = [tag("th", group, scope="colgroup", colspan=count) for group, count in groups]
     buttons = [tag("button", column.name, type="button", title=f"{column.whole}: sort by it") for column in columns]
@@ -372,7 +372,7 @@ def head_of_peers(columns: list[Column]) -> list[str]:
 
 
 def peers_table(run: Run, video: Video | None = None) -> list[str]:
-    """Each peer's totals, which a reader can sort."""
+    """Returns the table of each peer's totals, which a reader can sort."""
     columns = peer_columns(run, video)
     rows = [tag("tr", *(tag("td", cell_of(column.cell(peer))) for column in columns)) for peer in run.peers if not peer.refused]
     drawn = tag("table", *head_of_peers(columns), tag("tbody", *rows), class_="sorts")
@@ -385,12 +385,12 @@ def peers_table(run: Run, video: Video | None = None) -> list[str]:
 
 
 def lag_of(seen: Seen, whole: Seen) -> float:
-    """For how many seconds a still stands at the moment of them all."""
+    """Returns how many seconds before the stream's still a still is due, or 0 if there is none."""
     return round(whole.second - seen.second, 2) if seen.still else 0
 
 
 def still(seen: Seen, whole: Seen, name: str, told: str) -> str:
-    """A still with its words: whose it is, how many frames decode, and for how long it stands where it isn't of the moment itself."""
+    """Returns a still with its caption: whose it is, how many frames decode, and for how long it is shown if it is an earlier one."""
     lag = lag_of(seen, whole)
     frozen = f"; this one stands for {lag:.2f} s" if lag else ""
     picture = f'<img src="{seen.picture}" alt="a still of {name}"/>' if seen.still else tag("div", "nothing to show", class_="none")
@@ -399,7 +399,7 @@ def still(seen: Seen, whole: Seen, name: str, told: str) -> str:
 
 
 def video_of(run: Run, video: Video | None) -> list[str]:
-    """The frames that decode of each peer's file, and a still of each."""
+    """Returns the section on the video: the frames that decode of each peer's file, and a still of each."""
     if not video:
         return []
     whole, bytes_played = video.whole, {peer.peer: part_of(peer.bytes_played, run.stream) for peer in run.peers}
@@ -417,7 +417,7 @@ def icon(width: float, *parts: str) -> str:
 
 
 def sign(push: bool, asks: bool, traded: bool = True, paid: bool = False, was_paid: bool = False) -> str:
-    """A sign for the legend."""
+    """Returns a sign for the legend."""
     parts = [tag("rect", class_="sign", x=0.5, y=6.5, width=15, height=13, rx=3.5), tag("text", "3", class_="partner", x=8, y=16.5)]
     parts += [tag("path", class_="key", d="M4 4.5L12 4.5L8 0Z")] if paid else []
     parts += [tag("path", class_="key", d="M4 21.5L12 21.5L8 26Z")] if was_paid else []
@@ -434,13 +434,13 @@ def legend(*entries: tuple[str, str]) -> str:
 
 
 def radio(value: str, said: str) -> str:
-    """A choice of what the overview shows, of which the first is chosen."""
+    """Returns a choice of what the overview shows. The choice `played` is selected at first."""
     chosen = ' checked="checked"' if value == "played" else ""
     return f'<label><input type="radio" name="measure" value="{value}"{chosen}/>{said}</label>'
 
 
 def overview(run: Run) -> list[str]:
-    """The overview, which the script draws."""
+    """Returns the overview, which the script draws."""
     dot = icon(9, tag("circle", class_="alarm", cx=4.5, cy=13, r=4))
     ways = legend(
         (mark("straight"), "played, came from the broadcaster"),
@@ -462,7 +462,7 @@ def overview(run: Run) -> list[str]:
 
 
 def one_peer(run: Run) -> list[str]:
-    """The place of one peer's exchanges, with what chooses it."""
+    """Returns the place for one peer's exchanges, with the menu that chooses the peer."""
     options = ['<option value="all">all</option>'] if len(run.peers) <= SMALL else ['<option value="" selected="selected">none</option>']
     options += [f'<option value="{peer.peer}">{peer.peer}</option>' for peer in run.peers if not peer.refused]
     choice = f'<label>peer <select id="peer">{"".join(options)}</select></label>'
@@ -482,14 +482,14 @@ def one_peer(run: Run) -> list[str]:
 
 
 def reading(run: Run) -> str:
-    """How to read the page, folded."""
+    """Returns the section on how to read the page, folded."""
     life, fanout = run.session["life"], counted(run.session["fanout"], "peer")
     told = [tag("p", said.format(life=life, fanout=fanout)) for said in READING]
     return tag("details", tag("summary", "How to read this page"), tag("div", *told, class_="reading"))
 
 
 def page(run: Run, video: Video | None = None) -> str:
-    """The page of a run, of a video with what decodes of it."""
+    """Returns the page of a run. If its stream is a video, `video` is what decodes of it."""
     style, script = ((PARTS / name).read_text("utf-8") for name in ("page.css", "page.js"))
     parts = [tag("h1", "A session, as its peers recorded it"), tag("p", subtitle(run), class_="soft"), reading(run)]
     parts += [figures(run), *notes(run), *video_of(run, video), *overview(run), *one_peer(run)]

@@ -1,7 +1,7 @@
-"""A test video as a stream, made and read by ffmpeg: it is made as MPEG-TS, and what each peer played is decoded, as far as it decodes.
+"""Makes a test video as a stream with ffmpeg, and decodes what each peer played of it, as far as that is possible.
 
-A frame counts where the decoder gives one, however much of it is patched up. The still of a peer is what a player would show at one moment:
-the last frame that is due by then.
+The video is made as MPEG-TS. A frame counts if the decoder returns one, however much of it is patched up. The still of a peer is what a
+player would show at one moment: the last frame that is due by then.
 """
 import bisect
 import pathlib
@@ -17,40 +17,40 @@ from gossip.reports.run_data import Run
 from gossip.scripts.console import Failure, counted, say
 from gossip.sessions.session_folder import Folder
 
-# the programs, and what has them
+# the programs that are needed, and the package that has them
 NEEDED, PACKAGE = ("ffmpeg", "ffprobe"), "Debian's package ffmpeg"
 
 SECONDS, RATE, SIZE = 30, 25, "640x360"
-# what the video has in a second, with what MPEG-TS adds, is less than a round carries in its time
+# the bits of a second of the video: with what MPEG-TS adds, they are fewer than the rounds of a second carry
 BITS = 240_000
-# a picture that needs no other stands at each second, so that what a gap spoils heals by then
+# a key frame comes each second, so the damage by a gap ends there
 PICTURES = ["-c:v", "libx264", "-preset", "fast", "-b:v", BITS, "-maxrate", BITS, "-bufsize", BITS, "-g", RATE, "-bf", 0]
 PICTURES += ["-pix_fmt", "yuv420p"]
 
-# how many rounds come behind those in which the video is sent
+# the number of rounds after those in which the video is sent
 MORE = 4
-# the numbers of the session that the video goes over, and its network
+# the numbers of the session that sends the video, and its network
 NUMBERS = {"per_round": UPDATES[1], "life": 10, "cap": 16, "tick_ms": 200}
 NETWORK = Network(loss=5, seed="video")
 
-# how wide a still is, and what is less than the time between two frames
+# the width of a still, and half the time between two frames
 WIDTH, NEAR = 320, 0.5 / RATE
 
 
 def faults_of_ffmpeg() -> Iterator[str]:
-    """What refuses to make a video: a program is missing."""
+    """Yields why no video can be made, if a program is missing."""
     missing = [name for name in NEEDED if not shutil.which(name)]
     if missing:
         yield f"a video needs {' and '.join(missing)}, which {PACKAGE} has: install it (apt-get install ffmpeg), or leave --video out"
 
 
 def called(program: str, *words: str | pathlib.Path) -> bytes:
-    """What a program prints on standard output. What it says on files with gaps isn't wanted, nor is its status."""
+    """Returns what a program prints on standard output. Its messages and its status are ignored, since files may have gaps."""
     return run_words(program, words).printed
 
 
 def make(path: pathlib.Path, seconds: float = SECONDS) -> None:
-    """Makes a video of so many seconds, where no file is."""
+    """Makes a video of this many seconds, at a path where no file is."""
     source = "-f", "lavfi", "-i", f"testsrc2=size={SIZE}:rate={RATE}:duration={seconds}"
     words = *source, *map(str, PICTURES), "-f", "mpegts"
     called("ffmpeg", "-v", "quiet", *words, path)
@@ -59,7 +59,7 @@ def make(path: pathlib.Path, seconds: float = SECONDS) -> None:
 
 
 def rounds_for(path: pathlib.Path) -> Numbers:
-    """The rounds of a session for a video: those that it is sent in, and some more, in which its end is traded."""
+    """Returns the number of rounds of a session for a video: those in which it is sent, and some more in which its end is traded."""
     return {"rounds": -(-path.stat().st_size // room_of(1, NUMBERS["per_round"])) + MORE}
 
 
@@ -67,38 +67,38 @@ def rounds_for(path: pathlib.Path) -> Numbers:
 
 
 def times_of(path: pathlib.Path) -> list[float]:
-    """The times of the frames that decode, in seconds, in their order."""
+    """Returns the times of the frames that decode, in seconds and in rising order."""
     asked = "-select_streams", "v:0", "-show_entries", "frame=pts_time", "-of", "csv=p=0"
     lines = called("ffprobe", "-v", "quiet", *asked, path).decode(errors="replace").split()
     return sorted(float(it.strip(",")) for it in lines if it.strip(",").replace(".", "", 1).isdigit())
 
 
 def still_of(path: pathlib.Path, time: float) -> bytes:
-    """The frame at this time, as JPEG."""
+    """Returns the frame at this time, as JPEG."""
     chosen = f"select=gte(t\\,{time - NEAR:.3f}),scale={WIDTH}:-2"
     return called("ffmpeg", "-v", "quiet", "-copyts", "-i", path, "-map", "0:v:0", "-vf", chosen, "-frames:v", "1", "-f", "mjpeg", "-")
 
 
 def has_frame(times: Sequence[float], time: float) -> bool:
-    """Whether a frame stands at a time among these, which rise."""
+    """Whether there is a frame at this time, by the times of all frames in rising order."""
     at = bisect.bisect(times, time - NEAR)
     return at < len(times) and times[at] < time + NEAR
 
 
 def moment_of(whole: Sequence[float], others: Iterable[Sequence[float]]) -> float:
-    """The time of a frame that most of the others lack; of several that they lack equally the one next to the middle."""
+    """Returns the time of the frame that most of the others lack, and of several such frames the one next to the middle."""
     middle = whole[len(whole) // 2]
     return max(whole, key=lambda time: (sum(not has_frame(times, time) for times in others), -abs(time - middle)))
 
 
 def seen(path: pathlib.Path, times: Sequence[float], moment: float, begin: float) -> Seen:
-    """What decodes of a file, whose frames have these times, with the still of a moment. Seconds are counted from the begin of all."""
+    """Returns what decodes of a file with frames at these times, with its still at a moment. Seconds are counted from `begin`."""
     due = bisect.bisect(times, moment + NEAR)
     return Seen(len(times), still_of(path, times[due - 1]), times[due - 1] - begin) if due else Seen(len(times))
 
 
 def video_of(folder: Folder, peers: Iterable[int]) -> Video:
-    """What decodes in the folder of a session that was run."""
+    """Returns what decodes in the folder of a session that was run."""
     played = [peer for peer in peers if folder.played(peer).exists()]
     paths = [folder.stream, *map(folder.played, played)]
     whole, *others = times = spread(times_of, paths)
@@ -110,9 +110,9 @@ def video_of(folder: Folder, peers: Iterable[int]) -> Video:
 
 
 def add_to_page(folder: Folder) -> None:
-    """Prints how many frames of each peer decode, and leaves them beside the run's data, and in its page, which is written anew.
+    """Prints how many frames of each peer decode, writes what decodes beside the run's data, and the run's page again.
 
-    A run without a page is left as it is.
+    If the folder has no data of a run, nothing is done.
     """
     if not folder.data.exists():
         return

@@ -1,1 +1,1 @@
-"""Files and datagrams: their grammar, how they are read, told and captured."""
+"""Files and datagrams: their grammar, how they are read, described and captured."""

@@ -1,4 +1,4 @@
-"""Briefcases: how they are sealed and opened, and what a key opens of a CASE."""
+"""Briefcases: how they are encrypted and decrypted, and what a key opens of a CASE."""
 import hashlib
 import struct
 from collections.abc import Mapping
@@ -15,7 +15,7 @@ QUARTERS = [(0, 4, 8, 12), (1, 5, 9, 13), (2, 6, 10, 14), (3, 7, 11, 15), (0, 5,
 
 
 def quarter_round(state: list[int], quarter: tuple[int, int, int, int], low: int) -> None:
-    """Mixes four words of the state. Of each 64 bits the low 32 are a word, and the others have room for what is carried."""
+    """Mixes four words of the state. Of each 64 bits the low 32 are a word, and the others are room for carries."""
     a, b, c, d = quarter
     for sum_, added, mixed, left in ((a, b, d, 16), (c, d, b, 12), (a, b, d, 8), (c, d, b, 7)):
         state[sum_] = state[sum_] + state[added] & low
@@ -24,7 +24,7 @@ def quarter_round(state: list[int], quarter: tuple[int, int, int, int], low: int
 
 
 def keystream(key: bytes, size: int) -> bytes:
-    """So many bytes of ChaCha20's keystream under a key. Blocks are made at once: a word of their states is one number, 64 bits each."""
+    """Returns this many bytes of ChaCha20's keystream. Blocks are computed at once: one number holds a word of each, in 64 bits."""
     blocks = -(-size // 64)
     ones = int.from_bytes(struct.pack(f"<{blocks}Q", *[1] * blocks), "little")
     places = int.from_bytes(struct.pack(f"<{blocks}Q", *range(blocks)), "little")
@@ -42,13 +42,13 @@ def exclusive_or(one: bytes | memoryview, other: bytes) -> bytes:
 
 
 def junk_of(session: Session, exchange: Exchange, count: int) -> bytes:
-    """So many junk items of an exchange."""
+    """Returns this many junk items of an exchange."""
     key = hashlib.sha256(b"JNK1" + bytes.fromhex(session.id) + exchange.spelled()).digest()
     return keystream(key, JUNK_SIZE * count)
 
 
 def opened(session: Session, case: Case, key: bytes, digests: Mapping[Update, bytes]) -> dict[Update, bytes] | None:
-    """The blocks of the updates that a key opens of a CASE, or None where one of the items isn't what was promised."""
+    """Returns the blocks of the updates that a key opens of a CASE, or None if one of the items isn't what was promised."""
     plain = exclusive_or(case.cipher, keystream(key, len(case.cipher)))
     blocks = {update: plain[BLOCK_SIZE * at : BLOCK_SIZE * (at + 1)] for at, update in enumerate(case.promise.updates)}
     well = all(hashlib.sha256(block).digest() == digests.get(update) for update, block in blocks.items())

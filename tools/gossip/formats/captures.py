@@ -1,4 +1,4 @@
-"""A capture of a session as Wireshark reads it: what peers took, as UDP over the loopback address, by their recordings."""
+"""Writes a capture of a session for Wireshark: what peers took by their recordings, as UDP packets over the loopback address."""
 import heapq
 import struct
 from collections.abc import Iterator, Mapping
@@ -13,7 +13,7 @@ IP_SIZE, UDP_SIZE = 20, 8
 
 
 def checksum(head: bytes) -> int:
-    """The checksum of an IP header."""
+    """Returns the checksum of an IP header."""
     total = sum(struct.unpack(f">{len(head) // 2}H", head))
     while total > 0xFFFF:
         total = (total >> 16) + (total & 0xFFFF)
@@ -21,7 +21,7 @@ def checksum(head: bytes) -> int:
 
 
 def packet_of(source: int, target: int, datagram: bytes) -> bytes:
-    """A datagram from one port to another as a packet."""
+    """Returns a datagram from one port to another as a packet."""
     size = UDP_SIZE + len(datagram)
     parts = 0x45, 0, IP_SIZE + size, 0, 0, TIME_TO_LIVE, UDP
     head = struct.pack(">BBHHHBB", *parts) + b"\0\0" + ADDRESS + ADDRESS
@@ -30,14 +30,14 @@ def packet_of(source: int, target: int, datagram: bytes) -> bytes:
 
 
 def record_of(time: int, packet: bytes) -> bytes:
-    """A packet in a capture, at so many microseconds."""
+    """Returns the record of a packet in a capture, at this time in microseconds."""
     return struct.pack("<IIII", *divmod(time, 1_000_000), len(packet), len(packet)) + packet
 
 
 def packets_of(session: Session, party: int, recording: bytes) -> Iterator[tuple[int, bytes]]:
-    """The packets that a peer took, each with its time in microseconds from the first tick on.
+    """Yields the packets that a peer took, each with its time in microseconds since the first tick.
 
-    What came behind a tick stands in equal steps up to the next one. Where a datagram doesn't tell its sender, its port is 0.
+    The datagrams after a tick are spread evenly over the time up to the next one. If a datagram doesn't name its sender, its port is 0.
     """
     entries, _ = entries_of(recording)
     tick, behind = 0, []
@@ -53,7 +53,7 @@ def packets_of(session: Session, party: int, recording: bytes) -> Iterator[tuple
 
 
 def write_capture(file: BinaryIO, session: Session, recordings: Mapping[int, bytes], begin: int = 0) -> int:
-    """Writes the capture of these recordings, by party, which begins at so many milliseconds of Unix time: how many packets it has."""
+    """Writes the capture of these recordings, by party, with its begin in milliseconds of Unix time. Returns how many packets it has."""
     for party, recording in recordings.items():
         if recording[:4] != b"BARL" or recording[5:13].hex() != session.id:
             raise Malformed(f"the recording of party {party} is none of this session")

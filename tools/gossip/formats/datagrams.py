@@ -1,6 +1,6 @@
-"""The datagrams of a session, read: those of the broadcaster, and those of exchanges with the terms and promises of their CASEs.
+"""Reads the datagrams of a session: those of the broadcaster, and those of exchanges with the terms and promises of their CASEs.
 
-A datagram is read where it has the length that its kind and counts give, and its numbers are in range. Its signature isn't checked.
+A datagram is read if it has the length that its kind and counts give, and its numbers are in range. Its signature isn't checked.
 """
 import collections.abc
 import dataclasses
@@ -31,7 +31,7 @@ from gossip.formats.grammar import DIGEST_SIZE, GRAMMAR, WORD, Layout, Values, w
 # the receiver that means all peers
 EVERYONE = 0xFFFF
 
-# the kinds of an exchange's first messages: whether it's a push, and whether the initiator sends them. Others have two fields for it
+# the first messages of an exchange: whether it is a push, and whether the initiator sends them. Other kinds have two fields for this
 FIRST_MESSAGES = {REQUEST: (0, 1), RESPONSE: (0, 0), DIVULGE: (0, 1), QUERY: (1, 1), REPLY: (1, 0)}
 
 
@@ -43,7 +43,7 @@ def number_at(datagram: bytes, at: int, size: int = 4) -> int:
     return int.from_bytes(datagram[at : at + size], "big")
 
 
-# ---- what datagrams speak of
+# ---- the contents of datagrams
 
 
 class Update(typing.NamedTuple):
@@ -54,7 +54,7 @@ class Update(typing.NamedTuple):
 
 
 class Window(collections.abc.Set):
-    """A set of updates of some rounds, which takes little room: bit `width * n + i` is for update i of the round n behind the first."""
+    """A set of updates of some rounds in little memory. Bit `width * n + i` is for update i of the nth round after the first."""
 
     __slots__ = "first", "width", "bits"
 
@@ -66,7 +66,7 @@ class Window(collections.abc.Set):
         return number >= self.first and 0 <= index < self.width and self.bits >> self.width * (number - self.first) + index & 1 == 1
 
     def __iter__(self) -> Iterator[Update]:
-        """The updates, in order."""
+        """Yields the updates, in order."""
         rest = self.bits
         while rest:
             behind, index = divmod((rest & -rest).bit_length() - 1, self.width)
@@ -82,7 +82,7 @@ class Window(collections.abc.Set):
         return super().__eq__(other)
 
     def __sub__(self, other: "Window") -> "Window":
-        """What another window of the same rounds hasn't."""
+        """Returns the updates that another window of the same rounds doesn't have."""
         return Window(self.first, self.width, self.bits & ~other.bits)
 
 
@@ -95,12 +95,12 @@ class Exchange(typing.NamedTuple):
     responder: int
 
     def spelled(self) -> bytes:
-        """The exchange in nine bytes."""
+        """Returns the encoding of the exchange, in nine bytes."""
         return struct.pack(">IBHH", *self)
 
 
 class Promise(typing.NamedTuple):
-    """What a side of an exchange promises: updates in order, and behind them so many junk items."""
+    """What a side of an exchange promises: updates in order, followed by this many junk items."""
 
     updates: tuple[Update, ...]
     junk: int
@@ -115,14 +115,14 @@ class BalancedTerms:
     of_responder: Window
 
     def promise(self, by_initiator: bool, cap: int) -> Promise:
-        """What a side promises: the first that the other lacks, as many as the other promises and at most the cap."""
+        """Returns what a side promises: the first updates that the other lacks, as many as the other promises and at most the cap."""
         lacking = self.of_responder - self.of_initiator, self.of_initiator - self.of_responder
         return Promise(tuple(itertools.islice(lacking[by_initiator], min(cap, *map(len, lacking)))), 0)
 
 
 @dataclasses.dataclass(frozen=True)
 class PushTerms:
-    """What is offered and asked for, what of it is wanted and given, and the junk that makes up the difference."""
+    """What is offered and asked for, what of this is wanted and given, and the junk that makes up the difference."""
 
     young: Window
     aged: Window
@@ -131,7 +131,7 @@ class PushTerms:
     junk: int
 
     def promise(self, by_initiator: bool, _cap: int) -> Promise:
-        """What a side promises: the initiator what is wanted, the responder what is given and the junk."""
+        """Returns what a side promises: the wanted updates if it is the initiator, otherwise the given updates and the junk."""
         return Promise(tuple(self.wanted), 0) if by_initiator else Promise(tuple(self.given), self.junk)
 
 
@@ -178,7 +178,7 @@ class Message:
 
 @dataclasses.dataclass(frozen=True)
 class Case(Message):
-    """A CASE whose counts are those of its promise. Its cipher is a part of the datagram, and no copy."""
+    """A CASE whose counts are those of its promise. Its cipher is a view of the datagram, not a copy."""
 
     terms: BalancedTerms | PushTerms
     promise: Promise
@@ -191,7 +191,7 @@ class Key(Message):
 
 
 class Place(typing.NamedTuple):
-    """What all datagrams of exchanges say: the kind, the exchange, and whether the initiator is the sender."""
+    """What all datagrams of exchanges have: the kind, the exchange, and whether the initiator is the sender."""
 
     kind: int
     exchange: Exchange
@@ -206,7 +206,7 @@ class Reader:
         self.signature, self.peers = self.layout.signature, range(1, session.peers + 1)
 
     def read(self, datagram: bytes) -> Block | Evict | Manifest | Message | None:
-        """The datagram as a Manifest, Evict, Block or Message, or None where it's spelled as none of these."""
+        """Returns the datagram as a Manifest, Evict, Block or Message, or None if it isn't the encoding of one."""
         head = head_of(datagram, self.session)
         if not head or head.kind not in GRAMMAR or head.kind == EVIDENCE or len(datagram) != self.layout.length_of(head.kind, datagram):
             return None
@@ -217,7 +217,7 @@ class Reader:
         return call(head, values, memoryview(datagram)[end:])
 
     def release(self, head: Head, values: Values, rest: memoryview) -> Block | Evict | Manifest | None:
-        """A datagram of the broadcaster."""
+        """Returns a datagram of the broadcaster, or None if its sender or receiver is wrong."""
         if head.sender != 0 or (head.kind != BLOCK and head.receiver != EVERYONE):
             return None
         number = values["round"]
@@ -229,14 +229,14 @@ class Reader:
         return Manifest(number, {Update(number, at): digest for at, digest in enumerate(digests)})
 
     def message(self, head: Head, values: Values, rest: memoryview) -> Message | None:
-        """A datagram of an exchange."""
+        """Returns a datagram of an exchange, or None if it names no exchange or its counts are wrong."""
         place = self.place(head, values)
         if place and head.kind == CASE:
             return self.case(place, values, rest)
         return place and (Key(*place, values["key"]) if head.kind == KEY else Message(*place))
 
     def place(self, head: Head, values: Values) -> Place | None:
-        """The kind, the exchange and whether the initiator is the sender, of a datagram of an exchange; or None where it names none."""
+        """Returns the kind, the exchange and whether the initiator is the sender, or None if the datagram names no exchange."""
         push, by_initiator = FIRST_MESSAGES.get(head.kind) or (values["exchange kind"], 1 - values["role"])
         sender, receiver = head.sender, head.receiver
         if sender == receiver or sender not in self.peers or receiver not in self.peers or push > 1 or by_initiator < 0:
@@ -245,7 +245,7 @@ class Reader:
         return Place(head.kind, Exchange(values["round"], push == 1, *sides), by_initiator == 1)
 
     def exchange_of(self, datagram: bytes) -> Exchange | None:
-        """The exchange of a datagram, whatever it promises, or None where it's of none."""
+        """Returns the exchange of a datagram, whatever it promises, or None if it belongs to none."""
         head = head_of(datagram, self.session)
         if not head or head.kind not in MESSAGES or len(datagram) != self.layout.length_of(head.kind, datagram):
             return None
@@ -253,7 +253,7 @@ class Reader:
         return place and place.exchange
 
     def case(self, place: Place, values: Values, rest: memoryview) -> Case | None:
-        """A CASE, or None where its counts aren't those of its promise."""
+        """Returns a CASE, or None if its counts aren't those of its promise."""
         terms = self.terms_of(place.exchange, values)
         promise = terms.promise(place.by_initiator, self.session.cap)
         if (len(promise.updates), promise.junk) != (values["updates"], values["junk"]):
@@ -261,13 +261,13 @@ class Reader:
         return Case(*place, terms, promise, rest[: -self.signature])
 
     def terms_of(self, exchange: Exchange, values: Values) -> BalancedTerms | PushTerms:
-        """The terms of a CASE of this exchange."""
+        """Returns the terms of a CASE of this exchange."""
         names = ("young", "aged", "wanted", "given") if exchange.push else ("initiator's", "responder's")
         windows = [self.updates_in(exchange.round, values[name]) for name in names]
         return PushTerms(*windows, values["junk by terms"]) if exchange.push else BalancedTerms(values["nonce"], *windows)
 
     def updates_in(self, number: int, window: bytes) -> Window:
-        """The updates of a window of this round."""
+        """Returns the updates of a window of this round."""
         form = f"{self.words * self.session.life}Q"
         bits = int.from_bytes(struct.pack(f"<{form}", *struct.unpack(f">{form}", window)), "little")
         return Window(max(1, number - self.session.life + 1), WORD * self.words, bits)

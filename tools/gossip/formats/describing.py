@@ -1,4 +1,4 @@
-"""Tells of datagrams and of the files that hold them, in lines for a reader or as data for a program."""
+"""Describes datagrams and the files that hold them, in lines for a reader or as data for a program."""
 import dataclasses
 import re
 import tomllib
@@ -33,20 +33,20 @@ from gossip.formats.files import (
 from gossip.formats.grammar import EXCHANGE_KINDS, GRAMMAR, NUMBER, ROLES, WINDOW, Span, Values, name_of
 from gossip.scripts.console import counted, listed
 
-# how many bytes of a field are told at most; of a longer one their number is
+# the most bytes of a field that are shown; of a longer one only their number is
 LONGEST = 64
 
 PROOF_MAGIC, PROOF_HEAD = b"BARP\x01", 6
 
 
 class Datagrams:
-    """Tells of the datagrams of a session."""
+    """Describes the datagrams of a session."""
 
     def __init__(self, session: Session) -> None:
         self.session, self.reader = session, Reader(session)
 
     def fault(self, datagram: bytes) -> str | None:
-        """Why a datagram isn't spelled as one of the session, by the first reason that holds; or None."""
+        """Returns the first reason why a datagram isn't encoded as one of the session, or None if it is one."""
         session, layout = self.session, self.reader.layout
         checks = (
             ("Short", len(datagram) < 16),
@@ -80,14 +80,14 @@ class Datagrams:
         return bad or kind == REPLY and values["junk"] > 16
 
     def has_bad_count(self, kind: int, values: Values, datagram: bytes) -> bool:
-        """Whether a manifest has too many digests, or a notice has no parties, or others than peers in strictly rising order."""
+        """Whether a manifest has too many digests, or the parties of a notice aren't one or more peers in strictly rising order."""
         if kind == MANIFEST:
             return values["count"] > self.session.per_round
         parties = [span.value_in(datagram) for span in self.spans(datagram) if span.field.name == "parties"]
         return not parties or parties != sorted(set(parties)) or not 1 <= parties[0] <= parties[-1] <= self.session.peers
 
     def has_late_window(self, number: int, datagram: bytes) -> bool:
-        """Whether a window has updates of rounds behind its own."""
+        """Whether a window has updates of rounds after the datagram's own."""
         windows = [span.value_in(datagram) for span in self.spans(datagram) if span.field.form == WINDOW]
         return any(update.round > number for window in windows for update in self.reader.updates_in(number, window))
 
@@ -95,7 +95,7 @@ class Datagrams:
         return self.reader.layout.spans(datagram[3], datagram)
 
     def numbers(self, datagram: bytes) -> Values:
-        """The fields of a datagram that always stand at one place, by name."""
+        """Returns the fields of a datagram that have fixed positions, by name."""
         return self.reader.layout.values(datagram[3], datagram)[0]
 
     def sides(self, datagram: bytes) -> tuple[int, int]:
@@ -104,7 +104,7 @@ class Datagrams:
     # ---- in words
 
     def told(self, datagram: bytes) -> str:
-        """What a datagram says, behind its kind and its sides."""
+        """Returns a text on what a datagram says, without its kind and its parties."""
         kind, values = datagram[3], self.numbers(datagram)
         number = f"round {values['round']}" if "round" in values else ""
         if kind in (MANIFEST, BLOCK):
@@ -117,7 +117,7 @@ class Datagrams:
         return f"{number}, {self.told_of_message(kind, values)}"
 
     def told_of_message(self, kind: int, values: Values) -> str:
-        """What a datagram of an exchange says, behind its round."""
+        """Returns a text on what a datagram of an exchange says, without its round."""
         if kind in (REQUEST, RESPONSE, DIVULGE):
             history = values.get("responder's") or values.get("initiator's")
             return f"balanced, a history of {counted(self.size(values['round'], history), 'update')}" if history else "balanced"
@@ -136,7 +136,7 @@ class Datagrams:
         return len(self.reader.updates_in(number, window))
 
     def line(self, datagram: bytes, side: str = "from") -> str:
-        """A line on a datagram: its kind, who it's from or to, and what it says; or why it's none of the session."""
+        """Returns a line on a datagram: its kind, whom it is from or to, and what it says; or why it is none of the session."""
         fault = self.fault(datagram)
         if fault:
             return f"{counted(len(datagram), 'byte')} that are no datagram of the session: {fault}"
@@ -147,7 +147,7 @@ class Datagrams:
     # ---- as data
 
     def data(self, datagram: bytes) -> dict[str, object]:
-        """A datagram as data: its kind, its sides and its fields, or why it's none of the session."""
+        """Returns a datagram as data: its kind, its parties and its fields, or why it is none of the session."""
         fault = self.fault(datagram)
         if fault:
             return {"bytes": len(datagram), "fault": fault}
@@ -162,7 +162,7 @@ class Datagrams:
         return {"kind": name_of(datagram[3]), "from": sender, "to": receiver, "bytes": len(datagram), "fields": fields}
 
     def value(self, span: Span, datagram: bytes, number: int | None) -> object:
-        """A field as data: a number, the updates of a window, a datagram, or bytes in hex; of many bytes their number."""
+        """Returns a field as data: a number, the updates of a window, a datagram, or bytes in hex. If they are many, only their number."""
         value = span.value_in(datagram)
         if span.field.form == NUMBER:
             return value
@@ -183,33 +183,33 @@ def party_of(receiver: int) -> int | str:
 
 # ---- files
 
-# a line: as it's told, and as data
+# a line, as text and as data
 Line = tuple[str, dict[str, object]]
 
 
 @dataclasses.dataclass(frozen=True)
 class Told:
-    """What a file is, in words, and its lines: each as it's told, and as data."""
+    """What a file is, in words, and its lines, each as text and as data."""
 
     what: str
     lines: list[Line]
 
     @property
     def shown(self) -> list[str]:
-        """The lines for a reader: of ticks in a row behind which nothing was taken there is one."""
+        """The lines for a reader. Ticks in a row after which nothing was taken share one line."""
         shown, ticks = [], []
         for line, data in self.lines:
             if "tick" in data:
                 ticks.append((line, data))
                 continue
-            # behind the last of them this was taken
+            # the datagram of this line was taken after the last of these ticks
             shown += [*folded(ticks[:-1]), *(tick for tick, _ in ticks[-1:]), line]
             ticks = []
         return shown + folded(ticks)
 
 
 def folded(ticks: list[Line]) -> list[str]:
-    """The lines of ticks in a row behind which nothing was taken: one alone is told as any other."""
+    """Returns the lines of ticks in a row after which nothing was taken: one line for all of them, or the only one's own."""
     if len(ticks) < 2:
         return [line for line, _ in ticks]
     (_, first), (_, last) = ticks[0], ticks[-1]
@@ -218,7 +218,7 @@ def folded(ticks: list[Line]) -> list[str]:
 
 
 def recording_told(data: bytes, datagrams: Datagrams) -> Told:
-    """A recording: a line for each input."""
+    """Describes a recording, with a line for each input."""
     head = data[:RECORDING_HEAD]
     if head[:5] != b"BARL\x01" or head[5:13].hex() != datagrams.session.id:
         raise Malformed("its head isn't that of a recording of this session: name the session's text by --session")
@@ -236,7 +236,7 @@ def recording_told(data: bytes, datagrams: Datagrams) -> Told:
 
 
 def transcript_told(data: bytes, datagrams: Datagrams) -> Told:
-    """A transcript: a line for each datagram that was sent."""
+    """Describes a transcript, with a line for each datagram that was sent."""
     lines = []
     for number, to, datagram in sends_of(data.decode(errors="replace").splitlines()):
         line = f"-> {datagrams.line(datagram, 'to')}, at input {number}"
@@ -245,18 +245,18 @@ def transcript_told(data: bytes, datagrams: Datagrams) -> Told:
 
 
 def table_told(data: bytes, datagrams: Datagrams) -> Told:
-    """A table: a line for each manifest."""
+    """Describes a table, with a line for each manifest."""
     lines = [(datagrams.line(it), {"at": at, "datagram": datagrams.data(it)}) for at, it in manifests_of(data)]
     return Told("a table of manifests", lines)
 
 
 def evidence_told(data: bytes, datagrams: Datagrams) -> Told:
-    """Evidence: a line for each of its datagrams."""
+    """Describes evidence, with a line for each of its datagrams."""
     return Told("evidence", [(datagrams.line(part, "both"), {"datagram": datagrams.data(part)}) for part in parts_of(data)])
 
 
 def proof_told(data: bytes, datagrams: Datagrams) -> Told:
-    """A proof: a line for each manifest, and for each datagram of its evidence."""
+    """Describes a proof, with a line for each manifest and each datagram of its evidence."""
     if data[: PROOF_HEAD - 1] != PROOF_MAGIC or len(data) < PROOF_HEAD:
         raise Malformed("it has no head of a proof file")
     lines, at = [], PROOF_HEAD
@@ -268,14 +268,14 @@ def proof_told(data: bytes, datagrams: Datagrams) -> Told:
 
 
 def key_told(data: bytes, _datagrams: Datagrams | None = None) -> Told:
-    """A key file without its secret: a line for each of its keys."""
+    """Describes a key file without its secret, with a line for each of its keys."""
     key = dataclasses.asdict(KeyFile.of_text(data))
     lines = [(f"{name} = {str(value).lower()}", {name: value}) for name, value in key.items() if value is not None]
     return Told("a key file, whose secret isn't shown", lines)
 
 
 def session_told(data: bytes, _datagrams: Datagrams | None = None) -> Told:
-    """A session's text: a line for each number."""
+    """Describes a session's text, with a line for each number."""
     session = dataclasses.asdict(Session.of_text(data)) | {"SHA-256": fingerprint_of(data)}
     return Told("a session's text", [(f"{name} = {value}", {name: value}) for name, value in session.items() if value is not None])
 
@@ -293,7 +293,7 @@ TEXTS = "key", "session"
 
 
 def form_of(data: bytes) -> str:
-    """Which of these forms a file has, by its bytes; one that may have none is refused."""
+    """Returns which of these forms a file has, by its bytes. A file that can have none of them is refused."""
     if data[:4] in (b"BARL", b"BARP"):
         return "recording" if data[:4] == b"BARL" else "proof"
     if re.match(rb"\d+ \d+ [0-9a-f]*(\n|$)", data):

@@ -101,24 +101,24 @@ TYPES = {1: "uint8", 2: "uint16", 4: "uint32"}
 
 
 def abbreviation(name: str) -> str:
-    """The name by which a field is asked for."""
+    """Returns the name of a field in a display filter."""
     return f"bar.{re.sub('[^a-z0-9]+', '_', name.replace(chr(39), ''))}"
 
 
 def text_of(value: int | str) -> str:
-    """A value in Lua."""
+    """Returns a value in Lua."""
     if isinstance(value, bool):
         return str(value).lower()
     return str(value) if isinstance(value, int) else f'"{value}"'
 
 
 def table_of(values: Iterable[tuple[int | str | None, str]], keys: bool = True) -> str:
-    """A table in Lua, by keys or in order."""
+    """Returns a table in Lua, by keys or in order."""
     return "{" + ", ".join(f"[{text_of(key)}] = {it}" if keys else it for key, it in values) + "}"
 
 
 def field_of(field: Field) -> str:
-    """A field in Lua."""
+    """Returns a field in Lua."""
     parts = {"name": field.name, "form": field.form, "size": field.size, "times": field.times, "only": field.only}
     return table_of((name, text_of(value)) for name, value in parts.items() if value is not None)
 
@@ -128,7 +128,7 @@ def fields_of(fields: Iterable[Field]) -> str:
 
 
 def declared(fields: Iterable[Field]) -> Iterator[tuple[str, str]]:
-    """The declarations of all fields, by their names, each once."""
+    """Yields the name and the declaration of each field, each name once."""
     values = {"kind": "kind_names", "exchange kind": "exchange_kinds", "role": "roles"}
     for name, field in {field.name: field for field in fields}.items():
         type_ = TYPES[field.size] if field.form == NUMBER else "bytes"
@@ -141,7 +141,7 @@ def numbered(names: Iterable[str]) -> str:
 
 
 def dissector_of(session: Session) -> str:
-    """The dissector, with the numbers of a session as its defaults."""
+    """Returns the dissector, with the numbers of a session as its defaults."""
     kinds = {
         kind: table_of([("name", text_of(it.name)), ("signed", text_of(it.is_signed)), ("fields", fields_of(it.fields))])
         for kind, it in GRAMMAR.items()

@@ -1,4 +1,4 @@
-"""Reads the files and datagrams that docs/FORMATS.md defines. What isn't what its name says is refused with the reason (`Malformed`)."""
+"""Reads the files and datagrams that docs/FORMATS.md defines. An invalid one is refused with the reason (`Malformed`)."""
 import dataclasses
 import hashlib
 import io
@@ -12,11 +12,11 @@ from collections.abc import Callable, Collection, Container, Iterable, Iterator,
 
 from gossip.scripts.console import Failure, counted, listed
 
-# how many bytes of content an update has at most, and how many ticks a round
+# the most bytes of content of an update, and the ticks of a round
 CONTENT = 1022
 SLOTS = 8
 
-# how many leaves a round takes of a key, and how many a tree of each LMS type has
+# how many leaves of a key a round uses, and how many leaves a tree of each LMS type has
 LEAVES_A_ROUND = 18
 LEAVES = {5: 32, 6: 1024, 7: 32_768}
 
@@ -30,25 +30,26 @@ UPDATES = {1: 64, 2: 128, 3: 128}
 MANIFEST, BLOCK, REQUEST, RESPONSE, DIVULGE, QUERY, REPLY, CASE, KEYREQ, KEY, EVIDENCE, EVICT = range(1, 13)
 SIGNED = {MANIFEST, REQUEST, RESPONSE, QUERY, REPLY, CASE, KEY, EVICT}
 
-# how long the heads of a recording and of a datagram are, and what every datagram begins with, before the session's version
+# the size of a recording's head
 RECORDING_HEAD = 15
-# up to how many bytes of a file the program reads
+# the most bytes of a file that the program reads
 LARGEST_FILE = 1 << 30
+# the size of a datagram's head, and what every datagram begins with, before the session's version
 DATAGRAM_HEAD = 16
 MAGIC = b"\xba\x47"
 
 
-# the numbers of a session or of a key, by their names; and as they are given, where the text of one that couldn't be read stands for it
+# the numbers of a session or of a key, by name; and the same as given, with the text in place of one that couldn't be read
 Numbers = dict[str, int]
 Given = dict[str, int | str]
 
 
 class Malformed(Failure):
-    """What was read isn't what its name says."""
+    """What was read isn't valid."""
 
 
 class Head(typing.NamedTuple):
-    """What the head of a datagram says, behind its session."""
+    """What the head of a datagram says after its session."""
 
     kind: int
     sender: int
@@ -60,7 +61,7 @@ class Head(typing.NamedTuple):
 
 @dataclasses.dataclass(frozen=True)
 class Number:
-    """The range of a number of a session or a key, what it tells, and by what the range is narrowed, in words."""
+    """The range of a number of a session or a key, the number's meaning, and a note on the range."""
 
     least: int
     most: int
@@ -73,21 +74,21 @@ class Number:
 
     @property
     def shown(self) -> str:
-        """The range in words."""
+        """The range, in words."""
         numbers = f"{self.least:,}" if self.least == self.most else f"a whole number of {self.least:,} to {self.most:,}"
         return f"{numbers}{self.why}"
 
 
-# the ranges of numbers that have others where signatures have two levels
+# the ranges that some numbers have instead if signatures have two levels
 RANGES_WITH_TOP = {"rounds": (1, 7200), "lms": (LOWER, LOWER), "ots": (3, 4)}
 LONGEST = RANGES_WITH_TOP["rounds"][1]
 
-VERSIONS = "the version: a round has up to 64 updates in 1, 128 in 2 and 3; in 3 who owes a key isn't served, and losses cost less"
+VERSIONS = "the version: a round has up to 64 updates in 1, 128 in 2 and 3; in 3 a party that owes a key isn't served, and losses cost less"
 
 NUMBERS = {
     "version": Number(min(UPDATES), max(UPDATES), VERSIONS),
     "peers": Number(2, 200, "how many peers there are"),
-    "top": Number(5, 7, "the LMS type of the upper tree, where signatures have two levels"),
+    "top": Number(5, 7, "the LMS type of the upper tree, if signatures have two levels"),
     "rounds": Number(1, 1820, "for how many rounds the stream is sent", f", or to {LONGEST:,} with top"),
     "life": Number(2, 16, "how many rounds an update lives"),
     "cap": Number(1, 16, "how many items an exchange trades at most"),
@@ -102,7 +103,7 @@ NUMBERS = {
 
 
 def range_of(name: str, numbers: Mapping[str, object]) -> Number:
-    """The range of one of these numbers, which another of them may change."""
+    """Returns the range of one of these numbers, which may depend on another of them."""
     number = NUMBERS[name]
     if name in RANGES_WITH_TOP and "top" in numbers:
         least, most = RANGES_WITH_TOP[name]
@@ -115,7 +116,7 @@ def range_of(name: str, numbers: Mapping[str, object]) -> Number:
 
 
 def faults_of_number(name: str, numbers: Mapping[str, object], shown: str) -> Iterator[str]:
-    """What refuses one of these numbers, which is shown by another name."""
+    """Yields why one of these numbers is refused, if it is. The fault names it by `shown`."""
     number, value = range_of(name, numbers), numbers.get(name)
     if value is None:
         yield f"{shown} is missing"
@@ -124,22 +125,22 @@ def faults_of_number(name: str, numbers: Mapping[str, object], shown: str) -> It
 
 
 def version_for(per_round: int) -> int:
-    """The lowest version in which a round may have so many updates."""
+    """Returns the lowest version in which a round may have this many updates."""
     return min(version for version, most in UPDATES.items() if most >= per_round)
 
 
 def leaves_of(lms: int, top: int | None = None) -> int:
-    """How many leaves a key has that sign messages: those of its tree, or of the lower trees that hang on the leaves of the upper one."""
+    """Returns how many leaves of a key sign messages: those of its tree, or of the lower trees below the leaves of the upper one."""
     return LEAVES[lms] * (LEAVES[top] if top else 1)
 
 
 def most_rounds_of(top: int | None) -> int:
-    """For how many rounds the stream is sent at most, with this upper tree or with none."""
+    """Returns for how many rounds the stream is sent at most, with this upper tree or with none."""
     return range_of("rounds", {"top": top} if top else {}).most
 
 
 def tree_for(rounds: int, top: int | None = None) -> str:
-    """The smallest tree that has enough leaves for so many rounds, in words: an upper one where there is one, or has to be."""
+    """Returns in words the smallest tree with enough leaves for this many rounds. It is an upper one if there is one, or must be."""
     need = LEAVES_A_ROUND * rounds
     if top or rounds > most_rounds_of(None):
         return f"top {min(each for each in LEAVES if leaves_of(LOWER, each) >= need)}"
@@ -147,7 +148,7 @@ def tree_for(rounds: int, top: int | None = None) -> str:
 
 
 def faults_of_leaves(rounds: int, lms: int, top: int | None = None) -> Iterator[str]:
-    """What refuses so many rounds with keys of this LMS type, and of this upper tree where there is one."""
+    """Yields why this many rounds are refused with keys of this LMS type, and of this upper tree if there is one."""
     need, have = LEAVES_A_ROUND * rounds, leaves_of(lms, top)
     if need > have:
         tree = f"top {top}" if top else f"LMS type {lms}"
@@ -156,9 +157,9 @@ def faults_of_leaves(rounds: int, lms: int, top: int | None = None) -> Iterator[
 
 
 def faults_of_numbers(numbers: Mapping[str, object], names: Iterable[str], shown: Callable[[str], str] = str) -> Iterator[str]:
-    """What refuses the numbers of these names, among which are `rounds` and `lms`, and `top` where signatures have two levels.
+    """Yields why numbers are refused, if they are. The names include `rounds` and `lms`, and `top` if signatures have two levels.
 
-    `shown` gives the name that a fault has for a number.
+    `shown` returns the name that a fault uses for a number.
     """
     faults = {name: [*faults_of_number(name, numbers, shown(name))] for name in names}
     yield from itertools.chain(*faults.values())
@@ -167,13 +168,13 @@ def faults_of_numbers(numbers: Mapping[str, object], names: Iterable[str], shown
 
 
 def room_of(rounds: int, per_round: int) -> int:
-    """How many bytes a stream may have."""
+    """Returns how many bytes a stream may have."""
     return rounds * per_round * CONTENT
 
 
 @dataclasses.dataclass(frozen=True)
 class Room:
-    """The numbers of a session by which it has room for a stream."""
+    """The numbers of a session that determine how long its stream may be."""
 
     version: int
     rounds: int
@@ -182,16 +183,16 @@ class Room:
     top: int | None = None
 
     def told(self, rounds: int, per_round: int) -> str:
-        """So many rounds of so many updates, in words, with the version and the tree where the given ones have too few for them."""
+        """Returns these rounds and updates in words, with the version and the tree that they need if the session's are too small."""
         needed = [f"version {version_for(per_round)}"] if per_round > UPDATES[self.version] else []
         needed += [tree_for(rounds, self.top)] if LEAVES_A_ROUND * rounds > leaves_of(self.lms, self.top) else []
         told = f"{counted(rounds, 'round')} of {counted(per_round, 'update')}"
         return f"{told} with {listed(needed)}" if needed else told
 
     def larger(self, length: int) -> str:
-        """Which numbers have room for a stream of this length, in words: more rounds, more updates a round, or both.
+        """Returns in words which numbers have room for a stream of this length: more rounds, more updates a round, or both.
 
-        More rounds than a key of one level has leaves for are told where nothing else has room.
+        If nothing else has room, more rounds than a key of one level has leaves for are offered.
         """
         pieces, most_updates = -(-length // CONTENT), NUMBERS["per_round"].most
         fullest = [(-(-pieces // updates), updates) for updates in sorted({UPDATES[self.version], most_updates})]
@@ -203,7 +204,7 @@ class Room:
         return f"take a stream of at most {room_of(LONGEST, most_updates):,} bytes, the room of the longest session"
 
     def faults(self, length: int) -> Iterator[str]:
-        """What refuses a stream of this length."""
+        """Yields why a stream of this length is refused, if it is."""
         size = room_of(self.rounds, self.per_round)
         if length > size:
             told = f"{counted(self.rounds, 'round')} of {counted(self.per_round, 'update')} have room for {size:,}"
@@ -214,7 +215,7 @@ class Room:
 
 
 def document_of(text: bytes, versions: Collection[int]) -> dict[str, object]:
-    """The dictionary of a TOML document of one of these versions."""
+    """Returns the dictionary of a TOML document. Any version but these is refused."""
     try:
         document = tomllib.loads(text.decode())
     except (ValueError, RecursionError) as error:
@@ -228,7 +229,7 @@ def document_of(text: bytes, versions: Collection[int]) -> dict[str, object]:
 
 
 def faults_of_digits(name: str, value: object, count: int) -> Iterator[str]:
-    """What refuses a value that should be a text of so many hex digits."""
+    """Yields why a value that should be a text of this many hex digits is refused, if it is."""
     if value is None:
         yield f"{name} is missing"
     elif not isinstance(value, str) or not re.fullmatch(f"[0-9a-fA-F]{{{count}}}", value):
@@ -236,7 +237,7 @@ def faults_of_digits(name: str, value: object, count: int) -> Iterator[str]:
 
 
 def faults_of_public_keys(document: Mapping[str, object], peers: Sequence[Mapping[str, object]]) -> Iterator[str]:
-    """What refuses the public keys of a session's text, whose types are in their ranges. Those of two levels begin with this number."""
+    """Yields why the public keys of a session's text are refused, given valid types. Keys of two levels begin with the number 2."""
     size, front, tree = (120, f"{2:08x}", "top") if "top" in document else (112, "", "lms")
     types, owners = f"{front}{document[tree]:08x}{document['ots']:08x}", {}
     for name, value in [("key", document.get("key")), *((f"peer {number} key", peer.get("key")) for number, peer in enumerate(peers, 1))]:
@@ -249,19 +250,19 @@ def faults_of_public_keys(document: Mapping[str, object], peers: Sequence[Mappin
 
 
 def faults_of_anchors(peers: Sequence[Mapping[str, object]]) -> Iterator[str]:
-    """What refuses the anchors of a session's text."""
+    """Yields why the anchors of a session's text are refused, if they are."""
     for number, peer in enumerate(peers, 1):
         yield from faults_of_digits(f"peer {number} anchor", peer.get("anchor"), 64)
 
 
 def names_in(document: Container[str], names: Iterable[str]) -> list[str]:
-    """These names of numbers, but for `top` where a document has none."""
+    """Returns these names of numbers, without `top` if the document has none."""
     return [name for name in names if name != "top" or name in document]
 
 
 @dataclasses.dataclass(frozen=True)
 class Session:
-    """The id and the numbers of a session's text. There is a type of an upper tree where signatures have two levels."""
+    """The id and the numbers of a session's text. If signatures have two levels, `top` is the type of the upper tree."""
 
     version: int
     id: str
@@ -279,7 +280,7 @@ class Session:
 
     @classmethod
     def of_text(cls, text: bytes) -> "Session":
-        """Reads a session's text. Where its numbers are refused, its keys and anchors aren't looked at."""
+        """Reads a session's text. If its numbers are refused, its keys and anchors aren't checked."""
         document = document_of(text, UPDATES)
         peers = document.get("peer")
         if not isinstance(peers, list) or not all(isinstance(peer, dict) for peer in peers):
@@ -309,12 +310,12 @@ class Session:
 
     @property
     def ticks(self) -> int:
-        """How many ticks a party takes."""
+        """How many ticks a party receives."""
         return SLOTS * self.ends
 
     @property
     def seconds(self) -> float:
-        """How long a session runs, from its first tick to its last."""
+        """How long a session runs, in seconds."""
         return self.ticks * self.tick_ms / 1000
 
     @property
@@ -323,13 +324,13 @@ class Session:
         return room_of(self.rounds, self.per_round)
 
     def faults_of_stream(self, length: int) -> Iterator[str]:
-        """What refuses a stream of this length."""
+        """Yields why a stream of this length is refused, if it is."""
         return Room(self.version, self.rounds, self.per_round, self.lms, self.top).faults(length)
 
 
 @dataclasses.dataclass(frozen=True)
 class KeyFile:
-    """What a key file says, without its secret. There is a type of an upper tree in one of two levels."""
+    """The contents of a key file, without its secret. If the key has two levels, `top` is the type of its upper tree."""
 
     id: str
     party: int
@@ -353,7 +354,7 @@ class KeyFile:
         return cls(document["id"].lower(), spent=document["spent"], **{name: document[name] for name in names})
 
     def faults(self, session: Session, party: int) -> Iterator[str]:
-        """What tells that this isn't the session's key of the party. Whether the public key is the session's isn't looked at."""
+        """Yields why this isn't the session's key of the party, if it isn't. The public key isn't checked."""
         wanted = {"id": session.id, "party": party} | {name: getattr(session, name) for name in ("rounds", "lms", "ots", "top")}
         others = [name for name, value in wanted.items() if getattr(self, name) != value]
         if others:
@@ -361,7 +362,7 @@ class KeyFile:
 
 
 def fingerprint_of(text: bytes) -> str:
-    """What tells a session's text from any other: its SHA-256."""
+    """Returns the SHA-256 of a session's text, which identifies it."""
     return hashlib.sha256(text).hexdigest()
 
 
@@ -369,7 +370,7 @@ def fingerprint_of(text: bytes) -> str:
 
 
 def inputs_in(recording: typing.BinaryIO) -> Iterator[tuple[bytes | None, int]]:
-    """The inputs of a recording, each a datagram or None for a tick, with the place behind it. They are read one by one."""
+    """Yields the inputs of a recording, each a datagram or None for a tick, with the position after it. They are read one by one."""
     at = recording.seek(RECORDING_HEAD)
     while (kind := recording.read(1)) in (b"\x01", b"\x02"):
         if kind == b"\x01":
@@ -386,13 +387,13 @@ def inputs_in(recording: typing.BinaryIO) -> Iterator[tuple[bytes | None, int]]:
 
 
 def has_end_at(recording: typing.BinaryIO, place: int) -> bool:
-    """Whether a recording has its end at a place, and nothing behind it."""
+    """Whether a recording has its end at a position, and nothing after it."""
     recording.seek(place)
     return recording.read(2) == b"\x00"
 
 
 def entries_of(recording: bytes) -> tuple[list[bytes | None], bool]:
-    """The inputs of a recording, and whether the recording has its end."""
+    """Returns the inputs of a recording, and whether the recording has its end."""
     entries, end, file = [], RECORDING_HEAD, io.BytesIO(recording)
     for entry, end in inputs_in(file):
         entries.append(entry)
@@ -408,13 +409,13 @@ def is_whole(recording: typing.BinaryIO) -> bool:
 
 
 def recording_of(head: bytes, entries: Iterable[bytes | None]) -> bytes:
-    """The recording with this head and these inputs, with its end."""
+    """Returns the recording with this head and these inputs, with its end."""
     parts = (b"\x01" if entry is None else b"\x02" + len(entry).to_bytes(2, "big") + entry for entry in entries)
     return b"".join([head, *parts, b"\x00"])
 
 
 def whole_recording(recording: bytes) -> bytes:
-    """A recording up to its last whole entry, with an end."""
+    """Returns a recording up to its last whole entry, with an end."""
     return recording_of(recording[:RECORDING_HEAD], entries_of(recording)[0])
 
 
@@ -430,12 +431,12 @@ class Sent(typing.NamedTuple):
 
 
 def transcript_of(printed: str) -> Iterator[Sent]:
-    """What the lines of a transcript say."""
+    """Yields the lines of a transcript, decoded."""
     return sends_of(printed.splitlines())
 
 
 def sends_of(lines: Iterable[str]) -> Iterator[Sent]:
-    """The same, of lines as they come."""
+    """Yields the lines of a transcript, decoded, one by one as they are read."""
     for place, line in enumerate(lines, 1):
         try:
             number, receiver, digits = line.split(" ")
@@ -446,7 +447,7 @@ def sends_of(lines: Iterable[str]) -> Iterator[Sent]:
 
 
 def manifests_of(table: bytes) -> Iterator[tuple[int, bytes]]:
-    """Of each entry of a table file its place and its MANIFEST."""
+    """Yields the position and the MANIFEST of each entry of a table file."""
     at = 0
     while at < len(table):
         end = at + 2 + int.from_bytes(table[at : at + 2], "big")
@@ -457,7 +458,7 @@ def manifests_of(table: bytes) -> Iterator[tuple[int, bytes]]:
 
 
 def parts_of(evidence: bytes) -> list[bytes]:
-    """The datagrams of an evidence file."""
+    """Returns the datagrams of an evidence file."""
     parts, at = [], 1
     for number in range(1, evidence[0] + 1 if evidence else 1):
         size = int.from_bytes(evidence[at : at + 2], "big")
@@ -471,13 +472,13 @@ def parts_of(evidence: bytes) -> list[bytes]:
 
 
 def finding_of(name: str) -> tuple[int, str] | None:
-    """The party whose finding has this name, and what it is: `table`, or the number of the accused. None where it is no finding's name."""
+    """Returns the party whose finding has this name, and `table` or the number of the accused; or None if no finding has such a name."""
     told = re.fullmatch(r"party\.(\d+)\.(table|\d+)", name)
     return (int(told[1]), told[2]) if told else None
 
 
 def head_of(datagram: bytes, session: Session) -> Head | None:
-    """The kind, sender and receiver of a datagram of the session, or None."""
+    """Returns the kind, sender and receiver of a datagram of the session, or None if it is none."""
     if len(datagram) < DATAGRAM_HEAD or datagram[:3] != MAGIC + bytes([session.version]) or datagram[4:12].hex() != session.id:
         return None
     return Head(datagram[3], int.from_bytes(datagram[12:14], "big"), int.from_bytes(datagram[14:16], "big"))

@@ -1,6 +1,6 @@
-"""The grammar of datagrams as one table: of each kind its name, whether it's signed, and its fields in order.
+"""The grammar of datagrams as one table: for each kind its name, whether it is signed, and its fields in order.
 
-Whatever reads datagrams reads them by this table: the scripts, and the dissector that is made for Wireshark.
+Everything that reads datagrams uses this table: the scripts, and the dissector that is made for Wireshark.
 """
 import dataclasses
 import typing
@@ -26,27 +26,27 @@ from gossip.formats.files import (
     Session,
 )
 
-# how many bytes the block of an update has, a junk item, a digest, and a nonce or a key
+# how many bytes an update's block has, a junk item, a digest, and a nonce or a key
 BLOCK_SIZE, JUNK_SIZE, DIGEST_SIZE, SECRET_SIZE = 1024, 1280, 32, 32
 
 # how many bytes the public key of one tree has
 PUBLIC_KEY_SIZE = 56
 
-# how many updates a word of a window has a bit for, and how many bytes a word has
+# for how many updates a word of a window has bits, and how many bytes it has
 WORD, WORD_SIZE = 64, 8
 
 # the levels of a tree by its LMS type, and the chains of a one-time signature by its LM-OTS type
 LEVELS = {5: 5, 6: 10, 7: 15}
 CHAINS = {1: 265, 2: 133, 3: 67, 4: 34}
 
-# what a field is: a number, bytes, a window of the session's size, or a datagram after its length of two bytes
+# the forms of a field: a number, bytes, a window of the session's size, or a datagram after its length of two bytes
 NUMBER, BYTES, WINDOW, DATAGRAM = "number", "bytes", "window", "datagram"
 LENGTH_SIZE = 2
 
 
 @dataclasses.dataclass(frozen=True)
 class Field:
-    """A field of a datagram. It stands as often as the field `times` says, and where there is `only`, in exchanges of this kind alone."""
+    """A field of a datagram. It occurs as often as the field `times` says. If `only` is given, it occurs only in exchanges of this kind."""
 
     name: str
     form: str
@@ -57,7 +57,7 @@ class Field:
 
 @dataclasses.dataclass(frozen=True)
 class Kind:
-    """A kind of datagrams: its name, and its fields behind the head. A signed one has a signature behind these."""
+    """A kind of datagrams: its name, and its fields after the head. If it is signed, a signature follows the fields."""
 
     name: str
     is_signed: bool
@@ -73,7 +73,7 @@ def windows(*names: str, only: int | None = None) -> tuple[Field, ...]:
     return tuple(Field(name, WINDOW, only=only) for name in names)
 
 
-# behind the numbers of a CASE: the terms of a balanced exchange or of a push, and what is promised, sealed
+# after the numbers of a CASE: the terms of a balanced exchange or of a push, and what is promised, encrypted
 TERMS = (
     Field("nonce", BYTES, SECRET_SIZE, only=0),
     *windows("initiator's", "responder's", only=0),
@@ -100,7 +100,7 @@ FIELDS = {
 NAMES = dict(zip(FIELDS, "MANIFEST BLOCK REQUEST RESPONSE DIVULGE QUERY REPLY CASE KEYREQ KEY EVIDENCE EVICT".split()))
 GRAMMAR = {kind: Kind(NAMES[kind], kind in SIGNED, fields) for kind, fields in FIELDS.items()}
 
-# what the exchange kinds and roles of the fields are called
+# the names of the exchange kinds and of the roles
 EXCHANGE_KINDS, ROLES = ("balanced", "push"), ("initiator", "responder")
 
 # the head, before the fields
@@ -115,26 +115,26 @@ HEAD = (
 
 
 def name_of(kind: int | None) -> str:
-    """The name of a kind of datagrams, whatever number it is."""
+    """Returns the name of a kind of datagrams, or "OTHER" if no kind has this number."""
     return NAMES.get(kind, "OTHER")
 
 
 def signature_size(lms: int, ots: int, top: int | None = None) -> int:
-    """How many bytes a signature has: its leaf, both types, a one-time signature and a path.
+    """Returns how many bytes a signature has: its leaf, both types, a one-time signature and a path.
 
-    One of two levels has two of these, a number before them and the lower public key between them.
+    A signature of two levels has two of these, with a number before them and the lower public key between them.
     """
     size = 12 + 32 * (1 + CHAINS[ots] + LEVELS[lms])
     return 4 + signature_size(top, ots) + PUBLIC_KEY_SIZE + size if top else size
 
 
 def window_words(version: int) -> int:
-    """How many words a window has for each round."""
+    """Returns how many words a window has for each round."""
     return UPDATES[version] // WORD
 
 
 def window_size(session: Session) -> int:
-    """How many bytes a window of a session has."""
+    """Returns how many bytes a window of a session has."""
     return WORD_SIZE * window_words(session.version) * session.life
 
 
@@ -144,20 +144,20 @@ Values = dict[str, int | bytes]
 
 @dataclasses.dataclass(frozen=True)
 class Span:
-    """A field of a datagram that stands at a place, with so many bytes."""
+    """A field of a datagram, with its position and its size."""
 
     field: Field
     at: int
     size: int
 
     def value_in(self, datagram: bytes) -> bytes | int:
-        """The number that stands there, or the bytes."""
+        """Returns the number or the bytes of the field in a datagram."""
         value = datagram[self.at : self.at + self.size]
         return int.from_bytes(value, "big") if self.field.form == NUMBER else value
 
 
 class Places(typing.NamedTuple):
-    """The fields that always stand at one place, by name, those that stand as often as a count says, and where these begin."""
+    """The fields with fixed positions, by name, the fields that occur as often as a count says, and where these begin."""
 
     fixed: dict[str, Span]
     more: list[Field]
@@ -165,7 +165,7 @@ class Places(typing.NamedTuple):
 
 
 class Layout:
-    """Where the fields of a session's datagrams stand."""
+    """The positions of the fields of a session's datagrams."""
 
     def __init__(self, session: Session) -> None:
         self.window = window_size(session)
@@ -173,11 +173,11 @@ class Layout:
         self.table = {(kind, push): self.places(kind, push) for kind in GRAMMAR for push in ((0, 1) if kind == CASE else (None,))}
 
     def size_of(self, field: Field) -> int:
-        """How many bytes a field has where it stands once."""
+        """Returns how many bytes one occurrence of a field has."""
         return self.window if field.form == WINDOW else field.size
 
     def places(self, kind: int, push: int | None) -> Places:
-        """Where the fields of a kind stand, in a CASE of a balanced exchange or of a push."""
+        """Returns the places of a kind's fields, in a CASE those of a balanced exchange or of a push."""
         at, fixed, more = DATAGRAM_HEAD, {}, []
         for field in GRAMMAR[kind].fields:
             if field.only not in (None, push):
@@ -190,12 +190,12 @@ class Layout:
         return Places(fixed, more, at)
 
     def places_in(self, kind: int, datagram: bytes) -> Places:
-        """The same, in a datagram of this kind, whose exchange kind says which terms it has: each number but 0 stands for a push."""
+        """Returns the places of a datagram's fields. In a CASE they depend on its exchange kind, of which any but 0 means a push."""
         at = DATAGRAM_HEAD + ROUND.size
         return self.table[kind, int(datagram[at : at + 1] > b"\0") if kind == CASE else None]
 
     def length_of(self, kind: int, datagram: bytes) -> int | None:
-        """The length that a datagram of this kind has by its counts, or None where these aren't there."""
+        """Returns the length that a datagram of this kind has by its counts, or None if these are missing."""
         fixed, more, end = self.places_in(kind, datagram)
         if more and len(datagram) < end:
             return None
@@ -209,19 +209,19 @@ class Layout:
         return end + (self.signature if GRAMMAR[kind].is_signed else 0)
 
     def values(self, kind: int, datagram: bytes) -> tuple[Values, int]:
-        """The numbers and bytes of the fields that always stand at one place, by name, and where the rest begins."""
+        """Returns the numbers and bytes of the fields with fixed positions, by name, and where the rest begins."""
         fixed, _, end = self.places_in(kind, datagram)
         return {name: span.value_in(datagram) for name, span in fixed.items()}, end
 
     def spans(self, kind: int, datagram: bytes) -> Iterator[Span]:
-        """All fields of a datagram of this kind in order, and its signature. One of another length than its counts give is refused."""
+        """Yields all fields of a datagram of this kind in order, and its signature. If its counts give another length, it is refused."""
         if len(datagram) != self.length_of(kind, datagram):
             raise Malformed(f"a {name_of(kind)} has another length than its counts give")
         fixed, more, at = self.places_in(kind, datagram)
         yield from fixed.values()
         for field in more:
             for _ in range(fixed[field.times].value_in(datagram)):
-                size, at = field.size, at
+                size = field.size
                 if field.form == DATAGRAM:
                     size, at = int.from_bytes(datagram[at : at + LENGTH_SIZE], "big"), at + LENGTH_SIZE
                 yield Span(field, at, size)

@@ -1,1 +1,1 @@
-"""Experiments and their picture, and what datagrams cost."""
+"""Experiments and their picture, and the cost of datagrams."""

@@ -1,7 +1,7 @@
-"""Experiments: simulated sessions of which one number at a time takes several values, and what honest peers played in each.
+"""Experiments: simulated sessions in which one number at a time takes several values, and what honest peers played in each.
 
-A case is a session that is made, simulated and removed again. The peers that lie are the last ones, and lie in their keys; those that keep
-all rules but give no key are drawn from the others.
+A case is a session that is made, simulated and removed. The last peers are liars, which lie in their keys. Withholders keep all rules but
+give no key; they are drawn from the other peers.
 """
 import dataclasses
 import itertools
@@ -19,11 +19,11 @@ from gossip.scripts.console import Failure
 from gossip.sessions import making
 from gossip.sessions.session_folder import Folder
 
-# the numbers about which one at a time is varied; the signatures are those that are made and verified the fastest for so many rounds
+# the base, of which one number at a time is varied; its signatures are the fastest to make and verify for this many rounds
 BASE = {"version": 3, "peers": 20, "rounds": 20, "life": 6, "cap": 8, "per_round": 8, "fanout": 3, "lms": 6, "ots": 2, "tick_ms": 50}
 BASE |= {"loss": 0, "liars": 0, "withholders": 0, "forger": 0}
 
-# what is varied, in the order in which it is drawn: what it tells, and the values that it takes
+# the numbers that are varied, in the order in which they are drawn, each with its title and its values
 AXES = {
     "peers": ("peers: how many peers a session has", (5, 10, 20, 40)),
     "fanout": ("fan-out: how many peers the broadcaster sends an update to", (1, 2, 3, 5, 8)),
@@ -34,10 +34,10 @@ AXES = {
     "withholders": ("withholders: how many of a hundred peers give no key", (0, 5, 10, 25, 50)),
 }
 
-# the earlier version that is drawn beside the base's, where the rules that differ tell
+# the earlier version that is drawn beside the base's, for numbers on which the difference in the rules has an effect
 BESIDE = {"loss": 2, "withholders": 2}
 
-# what isn't a number of the session's text
+# the numbers that aren't in the session's text
 OTHERS = ("loss", "liars", "withholders", "forger")
 
 # the lies of liars and of withholders
@@ -46,7 +46,7 @@ LIES = {"liars": "key", "withholders": "keys"}
 
 @dataclasses.dataclass(frozen=True)
 class Case:
-    """A session to be simulated: its numbers, by their names, in order, and the seed of all that is drawn."""
+    """A session to be simulated: its numbers by name, in order, and the seed of all random choices."""
 
     numbers: tuple[tuple[str, float], ...]
     seed: int
@@ -68,12 +68,12 @@ class Case:
         return dict.fromkeys(range(peers - liars + 1, peers + 1), LIES["liars"]) | dict.fromkeys(drawn, LIES["withholders"])
 
     def peers_of(self, name: str) -> set[int]:
-        """The peers that lie as liars or as withholders do."""
+        """Returns the liars or the withholders."""
         return {party for party, lie in self.lies.items() if lie == LIES[name]}
 
     @property
     def session_numbers(self) -> dict[str, int]:
-        """The numbers of the session's text. The fan-out is at most all peers, and the port is taken by nobody."""
+        """The numbers of the session's text. The fan-out is at most the number of peers, and the port is one that nothing uses."""
         numbers = making.DEFAULTS | {name: value for name, value in self.numbers if name not in OTHERS}
         return numbers | {"fanout": min(numbers["fanout"], numbers["peers"]), "port": 20_000}
 
@@ -84,7 +84,7 @@ class Case:
 
 @dataclasses.dataclass(frozen=True)
 class Result:
-    """What came of a case: the part of the stream that each peer played, how many liars were evicted, and what was sent."""
+    """The result of a case: the share of the stream that each peer played, how many liars were evicted, and what was sent."""
 
     case: Case
     played: tuple[float, ...]
@@ -92,7 +92,7 @@ class Result:
     sent: int
 
     def shares_of(self, parties: Container[int]) -> tuple[float, ...]:
-        """What these peers played."""
+        """Returns what these peers played."""
         return tuple(share for party, share in enumerate(self.played, 1) if party in parties)
 
     @property
@@ -109,24 +109,24 @@ class Result:
 
 
 def told_of(name: str) -> str:
-    """What a number of the base tells."""
+    """Returns what a number of the base means."""
     axes = {axis: told.partition(": ")[2] for axis, (told, _) in AXES.items()}
-    others = axes | {"forger": "1 where somebody asks peers for their keys in the names of their partners"}
+    others = axes | {"forger": "1 if somebody asks peers for their keys in the names of their partners"}
     return NUMBERS[name].told if name in NUMBERS else others[name]
 
 
 def values_of(axes: Mapping[str, Collection[float]], base: Numbers) -> dict[str, list[float]]:
-    """The values of each axis that is drawn, in rising order, with that of the base."""
+    """Returns the values of each axis that is drawn, in rising order, including that of the base."""
     return {name: sorted({*values, base[name]}) for name, values in axes.items()}
 
 
 def beside(name: str) -> dict[str, int]:
-    """The version beside which a number is varied too, if there is one."""
+    """Returns the other version in which a number is varied too, if there is one."""
     return {"version": BESIDE[name]} if name in BESIDE else {}
 
 
 def cases_of(axes: Mapping[str, Collection[float]], base: Numbers, seeds: Iterable[int]) -> list[Case]:
-    """The cases of an experiment, each once: those in which one number has one of its values and all others are those of the base."""
+    """Returns the cases of an experiment, each once. One number has one of its values, and all but perhaps the version are the base's."""
     wanted = [base]
     for name, values in values_of(axes, base).items():
         wanted += [base | more | {name: value} for more in ({}, beside(name)) for value in values]
@@ -134,13 +134,13 @@ def cases_of(axes: Mapping[str, Collection[float]], base: Numbers, seeds: Iterab
 
 
 def stream_of(case: Case) -> bytes:
-    """A stream of random bytes with room in all rounds but the last, whose updates can't be traded any more."""
+    """Returns a stream of random bytes that fills all rounds but the last, whose updates can't be traded any more."""
     numbers = case.by_name
     return random.Random(f"stream {case.seed}").randbytes(room_of(max(1, numbers["rounds"] - 1), numbers["per_round"]))
 
 
 def run_case(case: Case, program: pathlib.Path) -> Result:
-    """Makes and simulates the session of a case in a folder that is removed behind it."""
+    """Makes and simulates the session of a case in a folder that is removed afterwards."""
     with tempfile.TemporaryDirectory(prefix="bar-case-") as name:
         room = pathlib.Path(name)
         (room / "stream").write_bytes(stream_of(case))
@@ -154,7 +154,7 @@ def run_case(case: Case, program: pathlib.Path) -> Result:
 
 
 def result_of(case: Case, folder: Folder, session: Session, sent: int) -> Result:
-    """What came of a case, by the files that its parties left."""
+    """Returns the result of a case, by the files that its parties left."""
     length, liars = folder.stream.stat().st_size, case.peers_of("liars")
     shares = [folder.played(party).stat().st_size / length for party in session.parties[:-1]]
     findings = map(finding_of, (path.name for path in folder.path.glob("party.0.*")))
@@ -164,14 +164,14 @@ def result_of(case: Case, folder: Folder, session: Session, sent: int) -> Result
     return Result(case, tuple(shares), len(evicted), sent)
 
 
-# ---- what is told
+# ---- reports
 
 
 @dataclasses.dataclass(frozen=True)
 class Point:
-    """What honest peers played where a number has a value: the mean of each seed, and the least and the most of a peer.
+    """What honest peers played with a value of a number: the mean of each seed, and the least and the most of a peer.
 
-    Where some withhold their keys, what these played, and what the same peers played in sessions in which nobody does.
+    If some peers withhold their keys, it also has what they played, and what the same peers played in sessions in which nobody does.
     """
 
     value: float
@@ -187,7 +187,7 @@ class Point:
 
 
 def point_of(value: float, results: list[Result], plain: list[Result]) -> Point:
-    """The point of these results, and of those of the same seeds in which nobody withholds keys."""
+    """Returns the point of these results, and of those of the same seeds in which nobody withholds keys."""
     shares = [share for result in results for share in result.shares]
     point = Point(value, tuple(result.mean for result in results), min(shares), max(shares))
     pairs = [(result, other, result.case.peers_of("withholders")) for result, other in zip(results, plain)]
@@ -199,7 +199,7 @@ def point_of(value: float, results: list[Result], plain: list[Result]) -> Point:
 
 
 def points_of(name: str, values: Iterable[float], base: Numbers, results: list[Result]) -> list[Point]:
-    """The points of an axis, in the order of its values."""
+    """Returns the points of an axis, in the order of its values."""
     by_numbers: dict[tuple[tuple[str, float], ...], list[Result]] = {}
     for result in results:
         by_numbers.setdefault(result.case.numbers, []).append(result)
@@ -212,13 +212,13 @@ def points_of(name: str, values: Iterable[float], base: Numbers, results: list[R
 
 
 def lines_of(name: str, values: Iterable[float], base: Numbers, results: list[Result]) -> dict[int, list[Point]]:
-    """What is drawn of an axis: the points by the version that they are of, that of the base first."""
+    """Returns what is drawn of an axis: its points in each version, those in the base's version first."""
     versions = [base["version"], *beside(name).values()]
     return {version: points_of(name, values, base | {"version": version}, results) for version in dict.fromkeys(versions)}
 
 
 def table_lines(name: str, points: list[Point], version: int | None = None) -> Iterator[str]:
-    """The lines of a table of what was played where this number has each of its values, in the base's version where none is named."""
+    """Yields the lines of a table of what was played with each value of this number. If no version is named, it is the base's."""
     withheld = any(point.withheld is not None for point in points)
     heads = [name if version is None else f"{name}, version {version}", "played, mean", "least of a peer", "most of a peer"]
     heads += ["withholders play", "as honest peers they would"] if withheld else []
@@ -232,7 +232,7 @@ def table_lines(name: str, points: list[Point], version: int | None = None) -> I
 
 
 def csv_lines(results: list[Result]) -> Iterator[str]:
-    """All results, a line each, behind a line of the names."""
+    """Yields all results, a line each, after a line of the names."""
     names = [name for name, _ in results[0].case.numbers]
     yield ",".join([*names, "seed", "played_mean", "played_least", "played_most", "liars", "evicted", "sent"])
     for result in results:

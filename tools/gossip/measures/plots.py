@@ -1,7 +1,7 @@
-"""Draws what experiments found as one picture: a panel for each number that was varied, with what peers played where it has each value.
+"""Draws the results of experiments as one picture: a panel for each number that was varied, with what peers played at each value.
 
-A panel has a line of the base's version, with a band and dots, and where another version is beside it a thin line of that one. Where some
-peers withhold their keys, a dashed line of each version is what these played.
+A panel has a line of the base's version, with a band and dots. If another version is drawn beside it, this has a thin line. If some peers
+withhold their keys, a dashed line of each version is what these played.
 """
 import dataclasses
 import html
@@ -9,7 +9,7 @@ from collections.abc import Iterable, Iterator, Mapping, Sequence
 
 from gossip.measures.experiments import Point
 
-# the sizes of the picture in its own units: a panel's plot, what is left, below and above of it, and how many panels stand in a row
+# the sizes of the picture in its own units: a panel's plot, the space left of, below and above it, and the panels in a row
 WIDTH, HEIGHT, LEFT, BELOW, TOP, ROW = 250, 150, 60, 52, 30, 3
 
 STYLE = """
@@ -22,12 +22,12 @@ text { font: 11px sans-serif; fill: #333 } .title { font-weight: bold } .grid { 
 
 
 def place(share: float) -> float:
-    """How far below the top of a plot a share of the stream stands."""
+    """Returns how far below the top of a plot a share of the stream is."""
     return HEIGHT * (1 - share)
 
 
 def columns(count: int) -> list[float]:
-    """Where the values of an axis stand, evenly."""
+    """Returns the positions of an axis's values, at equal distances."""
     return [WIDTH * (at + 0.5) / count for at in range(count)]
 
 
@@ -41,7 +41,7 @@ def text(x: float, y: float, said: str, **attributes: str) -> str:
 
 
 def grid() -> Iterator[str]:
-    """The lines of a plot, with the share of the stream that each stands for, and what this axis is."""
+    """Yields the lines of a plot, with the share of the stream that each stands for, and the title of this axis."""
     yield text(-HEIGHT / 2, -46, "played of the stream", text_anchor="middle", transform="rotate(-90)")
     for percent in range(0, 101, 25):
         y = place(percent / 100)
@@ -50,19 +50,19 @@ def grid() -> Iterator[str]:
 
 
 def title_lines(told: str) -> list[str]:
-    """A panel's title in up to two lines."""
+    """Returns a panel's title in up to two lines."""
     head, colon, rest = told.partition(": ")
     return [head, rest] if colon else [head, ""]
 
 
 def polyline(xs: Sequence[float], shares: Sequence[float | None], names: str) -> str:
-    """A line through shares of the stream, where there are some."""
+    """Returns a line through shares of the stream, or nothing if there are none."""
     points = [(x, place(share)) for x, share in zip(xs, shares) if share is not None]
     return f'<polyline class="{names}" points="{joined(points)}"/>' if points else ""
 
 
 def version_lines(xs: list[float], lines: Mapping[int, list[Point]]) -> Iterator[str]:
-    """The lines of each version, and if there are several what they are of, one below the other if they end at one height."""
+    """Yields the lines of each version. If there are several, each has a label, which is moved down if it overlaps the one before it."""
     told_at: list[float] = []
     for at, (version, points) in enumerate(lines.items()):
         names = "other" if at else "mean"
@@ -76,7 +76,7 @@ def version_lines(xs: list[float], lines: Mapping[int, list[Point]]) -> Iterator
 
 @dataclasses.dataclass(frozen=True)
 class Panel:
-    """The plot of one number: what it tells, its points in each version, the base's first, and the value of the base.
+    """The plot of one number: its title, its points in each version, the base's first, and the base's value.
 
     It has a band from the least to the most of a peer, lines through the means, and a dot for each seed.
     """
@@ -86,7 +86,7 @@ class Panel:
     base: float
 
     def drawn(self) -> Iterator[str]:
-        """The elements of the panel."""
+        """Yields the elements of the panel."""
         points = next(iter(self.lines.values()))
         xs = columns(len(points))
         head, rest = title_lines(self.told)
@@ -107,7 +107,7 @@ class Panel:
 
 
 def picture(panels: Sequence[Panel]) -> str:
-    """The picture of panels."""
+    """Returns the picture of panels."""
     rows = -(-len(panels) // ROW)
     width, height = ROW * (LEFT + WIDTH) + 12, rows * (TOP + HEIGHT + BELOW)
     parts = [f'<svg xmlns="http://www.w3.org/2000/svg" viewBox="0 0 {width} {height}" role="img">', f"<style>{STYLE}</style>"]

@@ -1,7 +1,7 @@
-"""Datagrams that are put into a recording, to measure what they cost its peer, and what a replay has to answer to them.
+"""Datagrams that are put into a recording, to measure what they cost its peer, and how a replay must answer them.
 
-Each kind of them is put where the rules surely do with it what it is named for. Where that depends on what was admitted, it is told by
-what the replay of the recording itself answers: a REQUEST whose input is answered was admitted then or before.
+Datagrams of each kind are put where the rules surely treat them as the kind is named. Where that depends on what was admitted, the answers
+of the recording's own replay show this. If a REQUEST is answered at its input, it was admitted then or before.
 """
 import dataclasses
 import hashlib
@@ -13,7 +13,7 @@ from gossip.formats.datagrams import Block, Case, Evict, Exchange, Key, Manifest
 from gossip.formats.files import DIVULGE, QUERY, RECORDING_HEAD, REQUEST, Malformed, Session, entries_of, recording_of, sends_of
 from gossip.reports.exchanges import round_of
 
-# how many datagrams are taken in a row at most: pacing puts a tick before the next one
+# how many datagrams may be taken in a row: pacing puts a tick before the next one
 MOST_IN_A_ROW = 65_536
 
 # the rounds near which REQUESTs are changed
@@ -21,7 +21,7 @@ LOW, HIGH = 50, 1000
 
 
 class Taken(typing.NamedTuple):
-    """A datagram that a peer took: the number of its input, counted from 1, its bytes, and what they say, if it's read."""
+    """A datagram that a peer took: the number of its input, counted from 1, its bytes, and its contents if it can be read."""
 
     number: int
     datagram: bytes
@@ -29,7 +29,7 @@ class Taken(typing.NamedTuple):
 
 
 class Recorded:
-    """A recording with the numbers of the inputs that its replay answers: its datagrams by how many ticks stand before them."""
+    """A recording with the numbers of the inputs that its replay answers. Its datagrams are grouped by how many ticks are before them."""
 
     def __init__(self, session: Session, recording: bytes, answered: Iterable[int] = ()) -> None:
         self.session, self.head, self.answered = session, recording[:RECORDING_HEAD], frozenset(answered)
@@ -48,41 +48,41 @@ class Recorded:
         return isinstance(message, Message) and message.receiver == self.party
 
     def is_answered(self, taken: Taken, kind: int) -> bool:
-        """Whether it's a datagram of this kind that is answered."""
+        """Whether it is a datagram of this kind to this peer that is answered."""
         return taken.number in self.answered and self.is_to_me(taken.message) and taken.message.kind == kind
 
     def is_request(self, taken: Taken) -> bool:
-        """Whether it's a REQUEST that is answered."""
+        """Whether it is a REQUEST to this peer that is answered."""
         return self.is_answered(taken, REQUEST)
 
 
-# ---- what is put where: of each group the datagram that is put behind it, or None
+# ---- what is put where: for each group the datagram that is put after it, or None
 
 
 def lasts(recorded: Recorded, accepts: Callable[[Taken], bool]) -> list[Taken | None]:
-    """Of each group the last that is accepted of it and of those before it."""
+    """Returns for each group the last datagram accepted of it and of those before it, or None."""
     found = ([None, *filter(accepts, group)][-1] for group in recorded.groups)
     return [*itertools.accumulate(found, lambda before, last: last or before)]
 
 
 def comings(firsts: list[bytes | None]) -> list[bytes | None]:
-    """Of each group what the first of the groups behind it has."""
+    """Returns for each group the first datagram that `firsts` has for a later group, or None."""
     return [*itertools.accumulate([None, *reversed(firsts[1:])], lambda later, first: first or later)][::-1]
 
 
 def repeated_answered(recorded: Recorded, kind: int, rounds: int) -> list[bytes | None]:
-    """A datagram of a kind that was answered, as long as it is answered again: for so many rounds after its own."""
+    """Returns for each group the last answered datagram of a kind, unless it is over `rounds` rounds old and not answered again."""
     found = enumerate(lasts(recorded, lambda taken: recorded.is_answered(taken, kind)))
     return [it.datagram if it and it.message.exchange.round >= round_of(tick) - rounds else None for tick, it in found]
 
 
 def repeated_requests(recorded: Recorded) -> list[bytes | None]:
-    """A REQUEST that was admitted, as long as it is answered again."""
+    """Returns for each group a REQUEST that was admitted, while it is answered again."""
     return repeated_answered(recorded, REQUEST, 1)
 
 
 def repeated_blocks(recorded: Recorded) -> list[bytes | None]:
-    """A BLOCK that came after the manifest of its round, so that it was admitted or its update was held."""
+    """Returns for each group the last BLOCK that came after the manifest of its round, so it was admitted or its update was held."""
     rounds = set()
 
     def is_known(taken: Taken) -> bool:
@@ -94,7 +94,7 @@ def repeated_blocks(recorded: Recorded) -> list[bytes | None]:
 
 
 def repeated_keys(recorded: Recorded) -> list[bytes | None]:
-    """A KEY that came after the CASE of its sender."""
+    """Returns for each group the last KEY that came after the CASE of its sender."""
     cases = set()
 
     def is_opening(taken: Taken) -> bool:
@@ -106,12 +106,12 @@ def repeated_keys(recorded: Recorded) -> list[bytes | None]:
 
 
 def past_manifests(recorded: Recorded) -> list[bytes | None]:
-    """A manifest that came."""
+    """Returns for each group the last manifest received so far, or None."""
     return [it and it.datagram for it in lasts(recorded, lambda taken: isinstance(taken.message, Manifest))]
 
 
 def coming_manifests(recorded: Recorded) -> list[bytes | None]:
-    """A manifest that is still to come."""
+    """Returns for each group the next manifest that is first received after it, or None."""
     seen, firsts = set(), []
     for group in recorded.groups:
         manifests = [it.datagram for it in group if isinstance(it.message, Manifest) and it.datagram not in seen]
@@ -121,7 +121,7 @@ def coming_manifests(recorded: Recorded) -> list[bytes | None]:
 
 
 def early_keys(recorded: Recorded) -> list[bytes | None]:
-    """A KEY of which neither itself nor the CASE of its sender, before which no KEY is admitted, came so far."""
+    """Returns for each group a KEY received later, as is the CASE of its sender. Before that CASE no such KEY is admitted."""
     keys, firsts, seen = {}, [], set()
     for taken in itertools.chain(*recorded.groups):
         if isinstance(taken.message, Key) and recorded.is_to_me(taken.message):
@@ -135,7 +135,7 @@ def early_keys(recorded: Recorded) -> list[bytes | None]:
 
 
 def side_of(message: Message) -> tuple[Exchange, bool]:
-    """The exchange of a message and the side that sent it."""
+    """Returns the exchange of a message and the side that sent it."""
     return message.exchange, message.by_initiator
 
 
@@ -143,17 +143,17 @@ def side_of(message: Message) -> tuple[Exchange, bool]:
 
 
 def forged(datagram: bytes, number: int) -> bytes:
-    """The datagram with another end of its signature."""
+    """Returns the datagram with the last bytes of its signature changed."""
     last = int.from_bytes(datagram[-4:], "big") ^ (number + 1)
     return datagram[:-4] + last.to_bytes(4, "big")
 
 
 @dataclasses.dataclass(frozen=True)
 class Load:
-    """So many copies of a datagram before each of some inputs, which are counted from 0, or behind the last one.
+    """Copies of datagrams that are put before some inputs, which are counted from 0, or after the last one.
 
-    Each copy is the same as its model, or where they are forged has another signature. A datagram that is remembered is verified at its
-    first copy alone. `answers` is how many lines answer one.
+    `parts` has for each such place the datagram and the number of its copies. If `is_forged`, each copy has another signature; otherwise
+    all are equal. If `is_remembered`, a datagram is verified at its first copy only. `answers` is how many lines answer one copy.
     """
 
     told: str
@@ -167,21 +167,21 @@ class Load:
         return sum(count for _, count in self.parts.values())
 
     def before(self, place: int) -> list[bytes]:
-        """The copies that stand before an input."""
+        """Returns the copies that are put before an input."""
         model, count = self.parts.get(place, (b"", 0))
         return [forged(model, number) if self.is_forged else model for number in range(count)]
 
 
 def longer(recorded: Recorded, load: Load) -> bytes:
-    """The recording with the datagrams of a load."""
+    """Returns the recording with the datagrams of a load."""
     parts = ([*load.before(place), entry] for place, entry in enumerate(recorded.entries))
     return recording_of(recorded.head, itertools.chain(*parts, load.before(len(recorded.entries))))
 
 
 def spread_over(recorded: Recorded, models: list[bytes | None], count: int) -> dict[int, tuple[bytes, int]]:
-    """So many copies of the models in all, behind the groups that have one: as many behind each, or one more.
+    """Returns at most this many copies of the models in all, after the groups that have one: equally many after each, or one more.
 
-    Behind the last tick there are none, since a recording that goes on there is refused.
+    There are none after the last tick, since a recording that continues there is refused.
     """
     groups, parts = [tick for tick, model in enumerate(models) if model and tick < recorded.session.ticks], {}
     for at, group in enumerate(groups):
@@ -191,7 +191,7 @@ def spread_over(recorded: Recorded, models: list[bytes | None], count: int) -> d
 
 
 def requests_by_round(recorded: Recorded) -> dict[int, tuple[Taken, int]]:
-    """By round the first REQUEST of it that is answered, which is admitted there, and how many datagrams its group has."""
+    """Returns for each round its first REQUEST that is answered, which is admitted there, and how many datagrams its group has."""
     found = {}
     for group in recorded.groups:
         for taken in filter(recorded.is_request, group):
@@ -200,7 +200,7 @@ def requests_by_round(recorded: Recorded) -> dict[int, tuple[Taken, int]]:
 
 
 def request_loads(recorded: Recorded, count: int) -> Iterator[Load]:
-    """For the rounds nearest a low and a high one: the REQUEST with its seed and another signature, just before it's admitted."""
+    """Yields loads of a REQUEST with another signature, just before it is admitted, for the rounds nearest `LOW` and `HIGH`."""
     found = requests_by_round(recorded)
     nearest = [min(found, key=lambda number, wanted=wanted: abs(number - wanted)) for wanted in (LOW, HIGH) if found]
     for number in dict.fromkeys(nearest):
@@ -210,7 +210,7 @@ def request_loads(recorded: Recorded, count: int) -> Iterator[Load]:
 
 
 def loads_of(recorded: Recorded, count: int) -> Iterator[Load]:
-    """The loads of all kinds, each of so many datagrams at most."""
+    """Yields the loads of all kinds, each of at most this many datagrams."""
     yield Load("repeated", spread_over(recorded, repeated_requests(recorded), count), is_remembered=True, answers=1)
     yield Load("forged", spread_over(recorded, past_manifests(recorded), count), is_forged=True)
     yield Load("verified", spread_over(recorded, coming_manifests(recorded), count), is_forged=True)
@@ -222,12 +222,12 @@ def loads_of(recorded: Recorded, count: int) -> Iterator[Load]:
     yield from request_loads(recorded, count)
 
 
-# ---- what a replay says
+# ---- the output of a replay
 
 
 @dataclasses.dataclass(frozen=True)
 class Said:
-    """What a replay says: of how many lines, to which inputs, and a digest of the tick and the datagram of each line."""
+    """The output of a replay: its number of lines, the inputs it answers, and a digest of each line's tick, receiver and datagram."""
 
     lines: int
     answered: frozenset[int]
@@ -235,7 +235,7 @@ class Said:
 
 
 def said_in(lines: Iterable[str], recording: bytes) -> Said:
-    """What the lines of a transcript say, by the recording that was replayed."""
+    """Returns what the lines of a transcript say, by the recording that was replayed."""
     entries, _ = entries_of(recording)
     ticks = [0, *itertools.accumulate(entry is None for entry in entries)]
     count, answered, digest = 0, set(), hashlib.sha256()
@@ -248,7 +248,7 @@ def said_in(lines: Iterable[str], recording: bytes) -> Said:
 
 
 def fault_of(load: Load, alone: Said, said: Said) -> str | None:
-    """What tells that the datagrams of a load aren't answered as their kind is, by what is said to the recording alone and with them."""
+    """Returns how the answers to a load differ from what its kind should get, if they do, by the replays without and with it."""
     wanted = alone.lines + load.answers * load.total
     if said.lines != wanted:
         return f"{load.told}: the transcript has {said.lines:,} lines instead of {wanted:,}"

@@ -1,1 +1,1 @@
-"""What lies between parties: losses and lies, relays, hosts and what forwards between them."""
+"""The network between parties: losses and lies, relays, hosts, and the forwarding between hosts."""

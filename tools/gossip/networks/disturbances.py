@@ -1,7 +1,7 @@
-"""What a network does to the datagrams between parties, and which peers lie: the words for both, and what becomes of each datagram.
+"""What a network does to the datagrams between parties, and which peers lie: the options for both, and the fate of each datagram.
 
-What becomes of a datagram is drawn from a seed, for each pair of a sender and a receiver by itself: of the same datagrams between two
-parties, in the same order, the same are lost, whatever the others send.
+Fates are drawn from a seed, separately for each pair of a sender and a receiver. So the fate of the n-th datagram from one party to another
+doesn't depend on what other parties send.
 """
 import argparse
 import collections
@@ -30,9 +30,9 @@ LONGEST_DELAY = 60_000
 
 @dataclasses.dataclass(frozen=True)
 class Network:
-    """How many of a hundred datagrams are lost, and of the others are repeated; by how many milliseconds each is delayed at most.
+    """The percentage of datagrams that are lost, that of the others that are repeated, and the longest delay in milliseconds.
 
-    The liars have their lies by their numbers. The seed is a text. There may be a forger, who asks for keys in the partners' names.
+    `liars` has the lie of each peer that lies, by its number. If `forges`, a forger asks for keys in the names of partners.
     """
 
     loss: float = 0
@@ -44,41 +44,41 @@ class Network:
 
     @property
     def is_plain(self) -> bool:
-        """Whether it delivers each datagram once and at once."""
+        """Whether the network delivers each datagram exactly once and immediately."""
         return not (self.loss or self.repeat or self.delay)
 
     @property
     def told(self) -> str:
-        """What it does, in words."""
+        """A line that describes what the network does."""
         parts = [f"loses {self.loss:g}%" if self.loss else "", f"repeats {self.repeat:g}%" if self.repeat else ""]
         parts += [f"delays by up to {self.delay} ms" if self.delay else "", "asks for keys in the names of partners" if self.forges else ""]
         done = ", ".join(filter(None, parts)) or "delivers each datagram once"
         return f"the network {done}, seed {self.seed}"
 
 
-# ---- the words
+# ---- options
 
 
 def take_network(parser: argparse.ArgumentParser) -> None:
-    """Adds the options that tell what the network does, and who lies."""
+    """Adds the options for what the network does and for who lies."""
     parser.add_argument("--loss", type=float, default=0, metavar="PERCENT", help="how many of a hundred datagrams are lost (default: 0)")
     told = "how many of a hundred datagrams that aren't lost are delivered twice (default: 0)"
     parser.add_argument("--repeat", type=float, default=0, metavar="PERCENT", help=told)
     told = "each datagram is delayed by 0 to MS milliseconds, so that some overtake others (default: 0)"
     parser.add_argument("--delay", type=int, default=0, metavar="MS", help=told)
-    parser.add_argument("--seed", metavar="TEXT", help="what losses, repeats and delays are drawn from (default: any, which is told)")
+    parser.add_argument("--seed", metavar="TEXT", help="the seed of losses, repeats and delays (default: a random one, which is printed)")
     told = f"peer P lies in this way: {', or '.join(f'{lie} ({does})' for lie, does in LIES.items())}; may stand for several peers"
     parser.add_argument("--liar", action="append", default=[], metavar="P:LIE", help=told)
 
 
 def liar_of(word: str) -> tuple[int, str] | None:
-    """The peer and the lie of a word, or None."""
+    """Returns the peer and the lie of an argument P:LIE, or None if it is malformed."""
     party, colon, lie = word.partition(":")
     return (int(party), lie) if colon and party.isascii() and party.isdigit() and lie in LIES else None
 
 
 def faults_of_network(words: argparse.Namespace, session: Session) -> Iterator[str]:
-    """What refuses the words for a session's network and liars."""
+    """Yields what is wrong with the options for a session's network and liars."""
     for name in ("loss", "repeat"):
         value = getattr(words, name)
         if not 0 <= value <= 100:
@@ -98,23 +98,23 @@ def faults_of_network(words: argparse.Namespace, session: Session) -> Iterator[s
 
 
 def network_of(words: argparse.Namespace) -> Network:
-    """The network of words that nothing refuses."""
+    """Returns the network that valid options describe."""
     liars, seed = dict(map(liar_of, words.liar)), words.seed or secrets.token_hex(4)
     return Network(words.loss, words.repeat, words.delay, seed, liars, getattr(words, "forger", False))
 
 
-# ---- what becomes of datagrams
+# ---- the fates of datagrams
 
 
 class Fates:
-    """Draws what becomes of each datagram, and counts it by its sender and receiver."""
+    """Draws the fate of each datagram, and counts the fates by sender and receiver."""
 
     def __init__(self, network: Network) -> None:
         self.network, self.draws = network, {}
         self.sent, self.lost, self.repeated = (collections.Counter() for _ in range(3))
 
     def delays(self, sender: int, receiver: int) -> list[int]:
-        """By how many milliseconds each copy of the next datagram between these two is delayed; it is lost where there is none."""
+        """Returns the delay in milliseconds of each copy of the next datagram. If the list is empty, the datagram is lost."""
         pair = sender, receiver
         self.sent[pair] += 1
         if self.network.is_plain:
@@ -131,12 +131,12 @@ class Fates:
 
     @property
     def line(self) -> str:
-        """What became of all datagrams, in words."""
+        """A line on how many datagrams were sent, lost and repeated."""
         sent, lost, repeated = (counter.total() for counter in (self.sent, self.lost, self.repeated))
         return f"{counted(sent, 'datagram')} went over the network: {lost:,} lost, {repeated:,} repeated"
 
     def text(self) -> str:
-        """What the network did and who lied, as JSON."""
+        """Returns what the network did and who lied, as JSON."""
         network = self.network
         told = {"loss": network.loss, "repeat": network.repeat, "delay_ms": network.delay, "seed": network.seed}
         told["liars"] = {str(party): lie for party, lie in sorted(network.liars.items())}

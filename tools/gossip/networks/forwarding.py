@@ -1,8 +1,9 @@
-"""What forwards datagrams between the hosts of a session, as text: units of systemd that run socat, or a table of nftables.
+"""The texts that configure forwarding of datagrams between the hosts of a session: systemd units that run socat, or an nftables table.
 
-A party binds the loopback address and sends to it: party P takes the session's port plus P. A receiver doesn't look at the address that a
-datagram comes from, so one-way forwarding serves. On each host all that is sent to the port of a party of another host goes to that host's
-address, and all that comes to the host's own address, to the port of one of its parties, goes to the loopback address. The port stays.
+Party P binds the session's port plus P on the loopback address, and all parties send to that address. One-way forwarding is enough, since a
+receiver ignores the address from which a datagram comes. If a datagram is sent to the port of a party of another host, it is forwarded to
+that host's address. If a datagram arrives at the host's own address, at the port of one of its parties, it is forwarded to the loopback
+address. The port doesn't change.
 """
 import dataclasses
 import shlex
@@ -16,18 +17,18 @@ from gossip.sessions.session_folder import LOOPBACK
 
 SOCAT, NFTABLES = "socat", "nftables"
 
-# where Debian has socat, which a unit names by its whole path
+# the path of socat on Debian; a unit names a program by its absolute path
 SOCAT_PATH = "/usr/bin/socat"
-# the status with which it ends where SIGTERM stops it
+# the exit status of socat if SIGTERM stops it
 STOPPED = 143
 
-# what lets a host forward to its loopback address, and from it
+# the file of the setting that lets a host forward to and from its loopback address
 ROUTE_LOCALNET = "/proc/sys/net/ipv4/conf/all/route_localnet"
 
 
 @dataclasses.dataclass(frozen=True)
 class Way:
-    """One way of forwarding on a host: what comes to the port of this party at one address goes to the same port at another one."""
+    """One direction of forwarding on a host, from a party's port at `listen` to the same port at `to`: out of the host if `is_out`."""
 
     party: int
     port: int
@@ -37,14 +38,14 @@ class Way:
 
 
 def ways_of(session: Session, hosts: list[Host], host: Host) -> Iterator[Way]:
-    """The ways of a host: out to each party of another one, and in to each of its own."""
+    """Yields the directions of a host: out to each party of another host, and in to each of its own parties."""
     for party, other in [(party, other) for other in hosts for party in other.parties]:
         listen, to = (host.listen, LOOPBACK) if other == host else (LOOPBACK, other.address)
         yield Way(party, session.port + party, listen, to, other != host)
 
 
 def label_of(session: Session) -> str:
-    """What all that forwards for a session is named by."""
+    """Returns the prefix of the names of a session's units and tables."""
     return f"bar-{session.id}"
 
 
@@ -52,7 +53,7 @@ def label_of(session: Session) -> str:
 
 
 def socat_words(way: Way) -> list[str]:
-    """The words of a socat that forwards in one way, datagrams of any length."""
+    """Returns the command of a socat process that forwards datagrams of any length in one direction."""
     sizes = ["-b", str(LARGEST), "-u"]
     return [SOCAT_PATH, *sizes, f"UDP4-RECV:{way.port},bind={way.listen},rcvbuf={BUFFER}", f"UDP4-SENDTO:{way.to}:{way.port}"]
 
@@ -62,7 +63,7 @@ def unit_name(session: Session, way: Way) -> str:
 
 
 def unit_of(session: Session, way: Way) -> str:
-    """The text of the unit that forwards in one way."""
+    """Returns the text of the unit that forwards in one direction."""
     told = f"to party {way.party} at {way.to}" if way.is_out else f"for party {way.party}, which come to {way.listen}"
     lines = ["[Unit]", f"Description=Datagrams of session {session.id} {told}", f"PartOf={label_of(session)}.target"]
     lines += ["Wants=network-online.target", "After=network-online.target", ""]
@@ -72,13 +73,13 @@ def unit_of(session: Session, way: Way) -> str:
 
 
 def target_of(session: Session, ways: list[Way]) -> str:
-    """The text of the target that has all units of a host."""
+    """Returns the text of the target that starts all units of a host."""
     names = " ".join(unit_name(session, way) for way in ways)
     return "\n".join(["[Unit]", f"Description=What forwards datagrams of session {session.id}", f"Wants={names}", ""])
 
 
 def socat_files(session: Session, ways: list[Way]) -> dict[str, str]:
-    """The files by which a host forwards by socat, each a name and a text."""
+    """Returns the files with which a host forwards by socat: their texts by name."""
     units = {unit_name(session, way): unit_of(session, way) for way in ways}
     return units | {f"{label_of(session)}.target": target_of(session, ways)}
 
@@ -95,20 +96,20 @@ def ports_of(ways: Iterable[Way]) -> str:
 
 
 def rules_out(ways: list[Way]) -> Iterator[str]:
-    """The rules for what is sent from a host, one for each address that it goes to."""
+    """Yields the rules for what a host sends, one for each address to which it is forwarded."""
     for to in dict.fromkeys(way.to for way in ways if way.is_out):
         yield f"ip daddr {LOOPBACK} udp dport {ports_of(way for way in ways if way.to == to)} dnat to {to}"
 
 
 def chain_of(name: str, hook: str, rules: Iterable[str]) -> list[str]:
-    """The lines of a chain."""
+    """Returns the lines of a chain."""
     return [f"    chain {name} {{", f"        type {hook}; policy accept;", *(f"        {rule}" for rule in rules), "    }"]
 
 
 def table_of(session: Session, hosts: list[Host], host: Host) -> str:
-    """The text of the table by which a host forwards. It replaces itself where it is loaded again.
+    """Returns the text of the table with which a host forwards. If it is loaded again, it replaces its earlier version.
 
-    A system that routes its loopback address takes datagrams to it from outside too, so the first chain drops these.
+    If a system routes its loopback address, it also accepts datagrams to this address from outside. The first chain drops these.
     """
     name, ways = table_name(session), [*ways_of(session, hosts, host)]
     inward, outward = ([way for way in ways if way.is_out == is_out] for is_out in (False, True))
@@ -124,7 +125,7 @@ def table_of(session: Session, hosts: list[Host], host: Host) -> str:
     return "\n".join([*lines, "}", ""])
 
 
-# ---- the script that runs it
+# ---- the script that forwards
 
 HEAD = """#!/bin/sh
 # Forwards datagrams of session {id} on host {name} by {by}, until it is stopped.
@@ -158,20 +159,20 @@ PROGRAMS = {SOCAT: (SOCAT_PATH, BY_SOCAT), NFTABLES: ("nft", BY_NFTABLES)}
 
 
 def told_of(hosts: list[Host], host: Host) -> str:
-    """What a host forwards, in words."""
+    """Returns a line that describes what a host forwards."""
     inward = listed(f"party {party}" for party in host.parties)
     return f"forwarding between {inward} at {host.listen} and {listed(other.address for other in hosts if other != host)}"
 
 
 def script_of(session: Session, hosts: list[Host], host: Host, by: str) -> str:
-    """The text of the script that forwards on a host."""
+    """Returns the text of the script that forwards on a host."""
     program, body = PROGRAMS[by]
     named = {"label": label_of(session), "table": table_name(session), "route": ROUTE_LOCALNET, "told": told_of(hosts, host)}
     return (HEAD + body).format(id=session.id, name=host.name, by=by, program=program, **named)
 
 
 def files_of(session: Session, hosts: list[Host], host: Host, by: str) -> dict[str, str]:
-    """The files by which a host forwards, each a name and a text."""
+    """Returns the files with which a host forwards: their texts by name."""
     if by == SOCAT:
         return socat_files(session, [*ways_of(session, hosts, host)])
     return {f"{label_of(session)}.nft": table_of(session, hosts, host)}

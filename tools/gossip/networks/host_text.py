@@ -1,10 +1,10 @@
-"""The hosts of a session that spans several machines, as a text tells of them: their names, their addresses and who runs on which.
+"""The text that describes the hosts of a session that spans several machines: their names, their addresses and the parties on each.
 
 The text is a TOML document of tables [[host]], each with these keys:
-  name      what the host is called: letters, digits and hyphens
-  address   its IPv4 address, by which the other hosts know it
+  name      the host's name: letters, digits and hyphens
+  address   the IPv4 address at which the other hosts reach it
   parties   the parties that run on it: numbers, and ranges of them as texts, such as "3-9"; party 0 is the broadcaster
-  listen    may be missing: its own address, if the others know it by another, as where addresses are translated
+  listen    optional: its own address, if it differs from `address`, for example because addresses are translated
 """
 import collections
 import dataclasses
@@ -29,7 +29,7 @@ Table = dict[str, object]
 
 @dataclasses.dataclass(frozen=True)
 class Host:
-    """A host: its name, its address, the parties that run on it in rising order, and its own address."""
+    """A host: its name, its address, the parties that run on it in ascending order, and its own address."""
 
     name: str
     address: str
@@ -41,26 +41,26 @@ class Host:
 
 
 def shown_host(number: int, table: Table) -> str:
-    """What a host is called in a refusal: by its name if it has one, else by its place."""
+    """Returns what a host is called in a refusal: its name if that is valid, else its number in the text."""
     name = table.get("name")
     return f"host {name}" if isinstance(name, str) and NAME.fullmatch(name) else f"host number {number}"
 
 
 def faults_of_keys(shown: str, table: Table) -> Iterator[str]:
-    """The keys that are missing, and those that say nothing."""
+    """Yields a fault for each required key that is missing, and for each unknown key."""
     yield from (f"{shown} has no {key}: give it one" for key in KEYS[:3] if key not in table)
     yield from (f"{shown} has the key {reprlib.repr(key)}: a host has {listed(KEYS)}" for key in table if key not in KEYS)
 
 
 def faults_of_name(shown: str, table: Table) -> Iterator[str]:
-    """What refuses a host's name."""
+    """Yields what is wrong with a host's name."""
     name = table.get("name", "host")
     if not isinstance(name, str) or not NAME.fullmatch(name):
         yield f"{shown} has the name {reprlib.repr(name)}: take up to 32 letters, digits and hyphens between them"
 
 
 def faults_of_address(shown: str, key: str, value: object) -> Iterator[str]:
-    """What refuses an address, by its key."""
+    """Yields what is wrong with the address under this key."""
     try:
         address = ipaddress.IPv4Address(value) if isinstance(value, str) else None
     except ValueError:
@@ -72,7 +72,7 @@ def faults_of_address(shown: str, key: str, value: object) -> Iterator[str]:
 
 
 def parties_in(value: object) -> list[int] | None:
-    """The parties that a list says, or None where it is none."""
+    """Returns the parties that a list names, or None if it is malformed."""
     parties = []
     for item in value if isinstance(value, list) else [None]:
         told = RANGE.fullmatch(item) if isinstance(item, str) else None
@@ -86,7 +86,7 @@ def parties_in(value: object) -> list[int] | None:
 
 
 def faults_of_list(shown: str, value: object) -> Iterator[str]:
-    """What refuses a host's list of parties."""
+    """Yields what is wrong with a host's list of parties."""
     parties = parties_in(value)
     if parties is None:
         yield f"{shown} has the parties {reprlib.repr(value)}: give a list of numbers, and of ranges such as \"3-9\""
@@ -95,7 +95,7 @@ def faults_of_list(shown: str, value: object) -> Iterator[str]:
 
 
 def faults_of_host(number: int, table: Table) -> Iterator[str]:
-    """What refuses a host by itself."""
+    """Yields what is wrong with a host, whatever the other hosts are."""
     shown = shown_host(number, table)
     yield from faults_of_keys(shown, table)
     yield from faults_of_name(shown, table)
@@ -108,20 +108,20 @@ def faults_of_host(number: int, table: Table) -> Iterator[str]:
 
 
 def host_of(table: Table) -> Host:
-    """The host of a table that nothing refuses."""
+    """Returns the host that a valid table describes."""
     address = str(ipaddress.IPv4Address(table["address"]))
     listen = str(ipaddress.IPv4Address(table.get("listen", address)))
     return Host(table["name"], address, tuple(sorted(parties_in(table["parties"]))), listen)
 
 
 def faults_of_twice(hosts: list[Host]) -> Iterator[str]:
-    """The names and addresses that several hosts have."""
+    """Yields a fault for each name and each address that several hosts have."""
     counts = collections.Counter((key, getattr(host, key).lower()) for key in ("name", "address") for host in hosts)
     yield from (f"{count} hosts have the {key} {value}: give each its own" for (key, value), count in counts.items() if count > 1)
 
 
 def faults_of_parties(hosts: list[Host], session: Session) -> Iterator[str]:
-    """The parties that no session has, those that several hosts have or one has twice, and those that run nowhere."""
+    """Yields the parties that the session doesn't have, those that are named more than once, and those that no host has."""
     pairs = [(party, host.name) for host in hosts for party in host.parties]
     owners = {party: [name for each, name in pairs if each == party] for party, _ in pairs}
     for party, names in sorted(owners.items()):
@@ -135,7 +135,7 @@ def faults_of_parties(hosts: list[Host], session: Session) -> Iterator[str]:
 
 
 def hosts_of_text(text: str, session: Session) -> list[Host]:
-    """The hosts of a text, over which the parties of a session are spread. All that is wrong with it is refused."""
+    """Returns the hosts of a text, which run the parties of a session. Raises `Refusal` if anything is wrong with the text."""
     try:
         document = tomllib.loads(text)
     except (ValueError, RecursionError) as error:
@@ -151,13 +151,13 @@ def hosts_of_text(text: str, session: Session) -> list[Host]:
 
 
 def faults_of_count(hosts: list[Host]) -> Iterator[str]:
-    """What refuses so few hosts."""
+    """Yields a fault if there are fewer than two hosts."""
     if len(hosts) < 2:
         yield f"there is {counted(len(hosts), 'host')}: name two or more, or run the session by tools/run-session"
 
 
 def read_hosts(path: pathlib.Path, session: Session) -> list[Host]:
-    """Reads the file of the hosts of a session."""
+    """Reads the file that describes the hosts of a session."""
     try:
         return hosts_of_text(path.read_text("utf-8"), session)
     except (OSError, UnicodeDecodeError) as error:

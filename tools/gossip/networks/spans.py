@@ -1,13 +1,13 @@
-"""The folders of the hosts that a session spans, each with what its parties need, and with their keys alone.
+"""The folders of the hosts that a session spans. Each has what the host's parties need, and only their keys.
 
 A host's folder has these files:
   session.toml      the session's text
-  key.P             the key file of each party of the host, which was moved here: there is one copy of it
-  stream            what is broadcast, on the broadcaster's host
+  key.P             the key file of each party P of the host; it was moved here, so there is one copy of it
+  stream            what is broadcast, only on the broadcaster's host
   bar               the program
-  forward.sh        forwards datagrams, by what the folder `forward` has, until it's stopped
-  start.sh          starts the parties, at a begin that is the same on all hosts
-Its parties leave the files of their results there, by the names that they have in a session's folder.
+  forward.sh        forwards datagrams, as the files in the folder `forward` say, until it is stopped
+  start.sh          starts the parties, which begin at a time that is the same on all hosts
+The parties write their results there, under the names that these files have in a session's folder.
 """
 import dataclasses
 import os
@@ -23,7 +23,7 @@ from gossip.scripts.console import Refusal, held, listed
 from gossip.sessions.making import new_folder
 from gossip.sessions.session_folder import Folder
 
-# how many hours ahead a begin may be at most
+# how many hours after the start of the script a session may begin at most
 MOST_HOURS = 48
 
 START = """#!/bin/sh
@@ -50,7 +50,7 @@ exit $failed
 
 @dataclasses.dataclass(frozen=True)
 class Span:
-    """A session that spans hosts: its folder and numbers, the program, the hosts, by what they forward, and the begin, where it's known."""
+    """A session that spans several hosts. `by` names what forwards their datagrams. `begin` is None if the time isn't chosen yet."""
 
     folder: Folder
     session: Session
@@ -61,22 +61,22 @@ class Span:
 
     @property
     def places(self) -> dict[str, pathlib.Path]:
-        """Where the folder of each host stands, by its name."""
+        """The path of each host's folder, by the host's name."""
         return places_of(self.folder, self.hosts)
 
 
 def span_of(folder: Folder) -> pathlib.Path:
-    """Where the folders of a session's hosts stand."""
+    """Returns the path of the folder that contains the hosts' folders."""
     return folder.path / "hosts"
 
 
 def places_of(folder: Folder, hosts: list[Host]) -> dict[str, pathlib.Path]:
-    """Where the folder of each host stands, by its name."""
+    """Returns the path of each host's folder, by the host's name."""
     return {host.name: span_of(folder) / host.name for host in hosts}
 
 
 def faults_of_span(folder: Folder) -> Iterator[str]:
-    """What refuses to spread a session."""
+    """Yields a fault if the session was already spread over hosts."""
     if os.path.lexists(span_of(folder)):
         yield f"{span_of(folder)} is there already: the session's keys were spread, so make a new session by tools/make-session"
 
@@ -85,7 +85,7 @@ def faults_of_span(folder: Folder) -> Iterator[str]:
 
 
 def party_line(party: int) -> str:
-    """The line that starts a party."""
+    """Returns the line of a shell script that starts a party."""
     names = {"session": "session.toml", "key": f"key.{party}", "stream": "stream", "begin": '"$begin"', "found": f"party.{party}"}
     names |= {name: f"party.{party}.{name}" for name in ("played", "recording")}
     words = ["./bar", *words_of("peer" if party else "broadcaster", **names)]
@@ -93,7 +93,7 @@ def party_line(party: int) -> str:
 
 
 def start_of(session: Session, host: Host, begin: int | None = None) -> str:
-    """The text of the script that starts a host's parties, at this begin where it's given no other."""
+    """Returns the text of the script that starts a host's parties. They begin at `begin`, unless the script is given another time."""
     parties = [party for party in session.parties if party in host.parties]
     return START.format(
         parties=listed(f"party {party}" for party in host.parties),
@@ -117,7 +117,7 @@ def write_script(path: pathlib.Path, text: str) -> None:
 
 
 def write_host(span: Span, host: Host, place: pathlib.Path) -> None:
-    """Writes the folder of a host, but for its keys."""
+    """Writes the folder of a host, without its keys."""
     folder, session = span.folder, span.session
     (place / "forward").mkdir(parents=True)
     for name, text in forwarding.files_of(session, span.hosts, host, span.by).items():
@@ -131,20 +131,20 @@ def write_host(span: Span, host: Host, place: pathlib.Path) -> None:
 
 
 def move(file: pathlib.Path, to: pathlib.Path) -> None:
-    """Moves a file to a folder, in which there is none of its name."""
+    """Moves a file to a folder. Raises `Refusal` if the folder already has a file of that name."""
     if os.path.lexists(to / file.name):
         raise Refusal(f"{to / file.name} is there already: move it away")
     file.rename(to / file.name)
 
 
 def move_all(pairs: Iterable[tuple[pathlib.Path, pathlib.Path]]) -> None:
-    """Moves files, each to its folder."""
+    """Moves each file to its folder."""
     for file, to in pairs:
         move(file, to)
 
 
 def spread(span: Span) -> None:
-    """Writes the folders of all hosts, and moves the keys there at last."""
+    """Writes the folders of all hosts, and then moves the keys there."""
     places = span.places
     with new_folder(span_of(span.folder)):
         for host in span.hosts:
@@ -154,24 +154,24 @@ def spread(span: Span) -> None:
 
 
 def files_of_parties(place: pathlib.Path, host: Host) -> Iterator[pathlib.Path]:
-    """The files of a host's parties, their keys and what they left."""
+    """Yields those files of a host's parties that exist: their keys and their results."""
     for party in host.parties:
         yield from (file for file in (Folder(place).key(party), *sorted(place.glob(f"party.{party}.*"))) if file.exists())
 
 
 def gather(folder: Folder, hosts: list[Host]) -> None:
-    """Moves the files of all parties from the hosts' folders to the session's, and removes the hosts' folders with what else is there."""
+    """Moves the files of all parties from the hosts' folders to the session's, then removes the hosts' folders and their other files."""
     places = places_of(folder, hosts)
     move_all([(file, folder.path) for host in hosts for file in files_of_parties(places[host.name], host)])
     if span_of(folder).is_dir():
         shutil.rmtree(span_of(folder))
 
 
-# ---- what is told
+# ---- what is printed
 
 
 def lines_of(span: Span) -> Iterator[str]:
-    """What to do on each host, a line for each."""
+    """Yields a line for each host on what to do there, and a line on the time at which the session begins."""
     word = "" if span.begin else " BEGIN"
     for host in span.hosts:
         run = f"run ./forward.sh there by {span.by}, and ./start.sh{word} beside it"

@@ -1,1 +1,1 @@
-"""How the program `bar` and the programs of the tools are built and run."""
+"""How the program `bar` and the other programs of the tools are built and run."""

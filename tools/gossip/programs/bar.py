@@ -1,7 +1,8 @@
-"""The program `bar`: its words, its exit statuses, how it is built and run. Nothing else in the tools runs it, and nothing else calls `rt`.
+"""The program `bar`: its arguments and exit statuses, and how it is built and run. The tools run it, and call `rt`, only by this module.
 
-A process is started in a group of its own, and the group is killed where the script is stopped or fails: so no party of a session stays.
-The main thread waits by short waits alone. A signal that comes just before a wait, or to another thread, is seen behind it.
+Each process is started in a process group of its own. If the script is stopped or fails, the group is killed, so that no party of a session
+keeps running. The main thread waits only for short times, so that a signal that arrives just before a wait, or in another thread, is
+handled after it.
 """
 import argparse
 import concurrent.futures
@@ -31,14 +32,14 @@ ROOT = pathlib.Path(__file__).resolve().parents[3]
 CRATE = ROOT / "crates/bar"
 PROGRAM = CRATE / "out/bar"
 
-# the same program for processors of the level x86-64-v3, which have AVX2; the level's name for `rt`; and the flags by which such a
-# processor shows in /proc/cpuinfo
+# the same program for processors of the level x86-64-v3, which have AVX2; the level's name for `rt`; and the flags that /proc/cpuinfo lists
+# for such a processor
 WIDE = CRATE / "out/bar_avx2"
 WIDE_PROCESSOR = "x86-64-v3"
 WIDE_FLAGS = frozenset({"avx", "avx2", "bmi1", "bmi2", "f16c", "fma", "abm", "movbe", "xsave"})
 PROCESSORS = pathlib.Path("/proc/cpuinfo")
 
-# how many seconds one wait of the main thread lasts at most
+# the longest time of one wait of the main thread, in seconds
 WAIT = 0.2
 
 # the options of each command, in their order
@@ -57,14 +58,14 @@ COMMANDS = {
 }
 
 
-# a word of a process
+# an argument of a process
 Word = str | pathlib.Path
 
 Item, Answer = typing.TypeVar("Item"), typing.TypeVar("Answer")
 
 
 class Status(enum.IntEnum):
-    """An exit status of the program, and what it says of it."""
+    """An exit status of the program, with its meaning."""
 
     DONE = 0, "all was done"
     NO_FAULT = 1, "no fault is shown"
@@ -86,7 +87,7 @@ class Status(enum.IntEnum):
 
 
 def told_of_status(status: int) -> str:
-    """What a status says, in words. One above 128 tells the signal that ended the process."""
+    """Returns the meaning of a status in words. A status above 128 names the signal that ended the process."""
     with contextlib.suppress(ValueError):
         return Status(status).told
     with contextlib.suppress(ValueError):
@@ -100,7 +101,7 @@ _groups = set()
 
 
 def kill_group(leader: int) -> None:
-    """Kills a process that was started here, and all that it started."""
+    """Kills a process that was started here, and all processes of its group."""
     with contextlib.suppress(ProcessLookupError):
         os.killpg(leader, signal.SIGKILL)
 
@@ -113,7 +114,7 @@ def kill_groups() -> None:
 
 @contextlib.contextmanager
 def running(words: Sequence[Word], **options: object) -> Iterator[subprocess.Popen[bytes]]:
-    """A process of these words. What of its group still runs behind the block is killed."""
+    """Starts a process with these arguments. When the block ends, what still runs of its group is killed."""
     process = None
     try:
         with held():
@@ -126,7 +127,7 @@ def running(words: Sequence[Word], **options: object) -> Iterator[subprocess.Pop
 
 
 def end_process(process: subprocess.Popen[bytes]) -> None:
-    """Kills what still runs of a process and its group, and waits for it."""
+    """Kills what still runs of a process and its group, and waits for the process."""
     kill_group(process.pid)
     for stream in filter(None, (process.stdout, process.stderr)):
         stream.close()
@@ -135,14 +136,14 @@ def end_process(process: subprocess.Popen[bytes]) -> None:
 
 
 def await_end(process: subprocess.Popen[bytes]) -> tuple[bytes | None, bytes | None]:
-    """Waits for the end of a process, and returns what it printed where that goes to pipes: on standard output, and on standard error."""
+    """Waits until a process ends. Returns what it printed on standard output and standard error, as far as these are pipes."""
     while True:
         with contextlib.suppress(subprocess.TimeoutExpired):
             return process.communicate(timeout=WAIT)
 
 
 def lines_of(process: subprocess.Popen[bytes]) -> Iterator[str]:
-    """The lines that a process prints to a pipe of bytes, as they come, up to its end."""
+    """Yields the lines that a process prints to a pipe of bytes, as they arrive, until the pipe is closed."""
     rest, data = b"", None
     while data != b"":
         if select.select([process.stdout], [], [], WAIT)[0]:
@@ -154,7 +155,7 @@ def lines_of(process: subprocess.Popen[bytes]) -> Iterator[str]:
 
 
 def await_next(results: queue.SimpleQueue[concurrent.futures.Future], count: Count | None = None) -> concurrent.futures.Future:
-    """Waits for the next item of a queue, and has the count of what is done tell that it goes on."""
+    """Waits for the next item of a queue and returns it. If a count is given, it prints its line again during a long wait."""
     while True:
         with contextlib.suppress(queue.Empty):
             return results.get(timeout=WAIT)
@@ -163,7 +164,7 @@ def await_next(results: queue.SimpleQueue[concurrent.futures.Future], count: Cou
 
 
 def status_of(process: subprocess.Popen[bytes]) -> int:
-    """The exit status of a process that has ended, as a shell tells it: of one that a signal ended it is 128 and the signal's number."""
+    """Returns the exit status of a process that has ended, as a shell does: 128 plus the signal's number if a signal ended it."""
     return process.returncode if process.returncode >= 0 else 128 - process.returncode
 
 
@@ -177,31 +178,31 @@ class Ran:
 
     @property
     def told(self) -> str:
-        """The status in words, with what the program said."""
+        """The status in words, with what the program printed on standard error."""
         said = " ".join(self.said.decode(errors="replace").split())
         return f"status {self.status}: {told_of_status(self.status)}{f' ({said})' if said else ''}"
 
 
 def words_of(command: str, **values: object) -> list[str]:
-    """The words of a command, with each of its options."""
+    """Returns the arguments of a command, with each of its options."""
     return [command, *(word for name in COMMANDS[command] for word in (f"--{name}", str(values[name])))]
 
 
 def key_words(numbers: Numbers, **values: object) -> list[str]:
-    """The words that make a key of a session of these numbers: one of two levels where they have the type of an upper tree."""
+    """Returns the arguments that make a key of a session of these numbers. It has two levels if they have the type of an upper tree."""
     command = "hsskeygen" if numbers.get("top") else "keygen"
     return words_of(command, **{name: numbers[name] for name in COMMANDS[command] if name in numbers} | values)
 
 
 def run_words(program: Word, words: Iterable[Word], stdout: int | IO = subprocess.PIPE, **options: object) -> Ran:
-    """Runs the program to its end. What it prints may go elsewhere than to the answer."""
+    """Runs the program until it ends. If `stdout` redirects what it prints, the result doesn't have that."""
     with running([program, *words], stdout=stdout, stderr=subprocess.PIPE, **options) as process:
         printed, said = await_end(process)
         return Ran(status_of(process), printed or b"", said)
 
 
 def run(program: Word, command: str, **values: object) -> Ran:
-    """Runs a command to its end."""
+    """Runs a command until it ends."""
     return run_words(program, words_of(command, **values))
 
 
@@ -212,16 +213,16 @@ def spread(
     at_once: int | None = None,
     seconds: float | None = None,
 ) -> list[Answer]:
-    """Calls for each item, as many at once as there are processors or as is said, and returns the answers in the items' order.
+    """Calls a function for each item, `at_once` at a time or as many as there are processors, and returns the answers in the items' order.
 
-    Under the name `told` lines tell how many are done, and how long it's likely to take, by what is done or by these seconds. Where a call
-    fails or the script is stopped, no other call begins, and all that runs is killed.
+    If there is a label `told`, lines report how many calls are done and the estimated time left. The estimate is based on the calls done,
+    and before that on `seconds`. If a call fails or the script is stopped, no further call begins, and all processes are killed.
     """
     at_once, ended = at_once or os.cpu_count(), queue.SimpleQueue()
     count = Count(told, len(items), at_once, seconds) if told else None
     with concurrent.futures.ThreadPoolExecutor(at_once) as pool:
         try:
-            # a thread that was begun and isn't the pool's yet would be waited for by nobody
+            # nobody would wait for a thread that was started but isn't the pool's yet
             with held():
                 futures = [begin(pool, call, item, ended) for item in items]
             for done in range(1, len(futures) + 1):
@@ -240,14 +241,14 @@ def begin(
     item: Item,
     ended: queue.SimpleQueue[concurrent.futures.Future],
 ) -> concurrent.futures.Future:
-    """Has a call made by a pool; its future comes to the queue when it has ended."""
+    """Has a pool make a call. Its future is put into the queue when the call has ended."""
     future = pool.submit(call, item)
     future.add_done_callback(ended.put)
     return future
 
 
 def end_calls(pool: concurrent.futures.ThreadPoolExecutor) -> None:
-    """Begins no other call, and kills what runs until each call that began has ended."""
+    """Cancels the calls that haven't begun, and kills all processes until each call that began has ended."""
     ending = threading.Thread(target=pool.shutdown, kwargs={"cancel_futures": True})
     ending.start()
     while ending.is_alive():
@@ -257,21 +258,21 @@ def end_calls(pool: concurrent.futures.ThreadPoolExecutor) -> None:
 
 # ---- building
 
-# a line by which `rt ci` tells that a crate is proved
+# a line in which `rt ci` reports that a crate is proved
 PROVED = re.compile(r"rt: (\w+) proved")
 
-# how many of the last lines that `rt` printed are shown where it failed
+# how many of the last lines that `rt` printed are shown if it failed
 SHOWN = 30
 
-# what isn't copied of a crate that is proved in another folder: what `rt` made of it, its edits and its tests
+# the parts of a crate that aren't copied to the folder where it is proved: what `rt` made of it, its edits and its tests
 LEFT_OUT = shutil.ignore_patterns("out", "must-fail", "tests*")
 
-# by which a source names its tests
+# the lines by which a source includes its tests
 NAMES_TESTS = "#[cfg(test)]\nmod tests;\n"
 
 
 class BuildFailed(Refusal):
-    """The program isn't built; `rt` ended with this status."""
+    """The program couldn't be built. `rt` ended with the status `rt_status`."""
 
     def __init__(self, reason: str, rt_status: int) -> None:
         super().__init__(reason)
@@ -280,7 +281,7 @@ class BuildFailed(Refusal):
 
 @contextlib.contextmanager
 def running_rt(*words: Word, **options: object) -> Iterator[subprocess.Popen[bytes]]:
-    """A process of `rt`."""
+    """Starts `rt` with these arguments, as `running` does. Raises a `BuildFailed` if there is no `rt`."""
     try:
         with running(["rt", *words], **options) as process:
             yield process
@@ -288,16 +289,9 @@ def running_rt(*words: Word, **options: object) -> Iterator[subprocess.Popen[byt
         raise BuildFailed("there is no `rt`: put the toolchain's folder on the PATH, or name a built program by --bar", 127) from None
 
 
-def rt_run(folder: pathlib.Path, *words: str) -> int:
-    """Has `rt` prove, build and run the program of a crate, and returns its exit status. All that it prints goes to standard error."""
-    with running_rt("run", *words, cwd=folder, stdout=sys.stderr) as process:
-        await_end(process)
-        return status_of(process)
-
-
 def rt_ci(room: pathlib.Path, names: Iterable[str]) -> tuple[int, list[str]]:
-    """Has `rt ci` prove the crates of a folder side by side, try their edits, and build and run their programs. It tells which crates are
-    proved, and how long the others are likely to take. Returns the exit status and the lines that were printed.
+    """Has `rt ci` prove the crates of a folder in parallel, try their edits, and build and run their programs. Prints which crates are
+    proved, and an estimate of the time that the others take. Returns the exit status and the lines of `rt`.
     """
     sizes, begun, lines = {name: size_of(room / "crates" / name) for name in names}, time.monotonic(), []
     proved = []
@@ -313,25 +307,25 @@ def rt_ci(room: pathlib.Path, names: Iterable[str]) -> tuple[int, list[str]]:
 
 
 def size_of(folder: pathlib.Path) -> int:
-    """How many bytes the sources and proofs of a crate have."""
+    """Returns the size of the sources and proofs of a crate, in bytes."""
     return sum(path.stat().st_size for ending in ("rt", "antt") for path in folder.rglob(f"*.{ending}"))
 
 
 def tell_proved(sizes: dict[str, int], proved: list[str], seconds: float) -> None:
-    """Tells that a crate is proved after so many seconds. The time that is left is estimated by the sizes of the others."""
+    """Prints that the last of these crates was proved after this time. The time left is estimated from the sizes of the other crates."""
     done, whole = sum(sizes[name] for name in proved), sum(sizes.values())
     left = f"; some {round(seconds * (whole - done) / done / 60) + 1} more for the others" if done < whole else ""
     progress(f"{proved[-1]} is proved, {len(proved)} of {counted(len(sizes), 'crate')}, after {round(seconds / 60)} minutes{left}")
 
 
 def crates_in(lines: str) -> dict[str, list[str]]:
-    """What each crate stands on, by the lines of crates.txt."""
+    """Returns the crates that each crate names, by the lines of crates.txt."""
     found = (line.partition(":") for line in lines.splitlines() if not line.startswith("#"))
     return {name: words.split() for name, colon, words in found if colon}
 
 
 def crates_below(lines: str, crate: str) -> list[str]:
-    """What a crate stands on, by the lines of crates.txt: what it names itself, and then what only crates below it name."""
+    """Returns the dependencies of a crate, by the lines of crates.txt: those that it names itself, and then those of its dependencies."""
     crates, below = crates_in(lines), []
     left = [*crates[crate]]
     while left:
@@ -343,7 +337,7 @@ def crates_below(lines: str, crate: str) -> list[str]:
 
 
 def needed_for(lines: str, names: Iterable[str]) -> dict[str, list[str]]:
-    """These crates and all crates of crates.txt that they stand on, with what each stands on."""
+    """Returns these crates and all their dependencies in crates.txt, each with the crates that it names."""
     crates, needed, left = crates_in(lines), set(), [*names]
     while left:
         name = left.pop()
@@ -353,19 +347,22 @@ def needed_for(lines: str, names: Iterable[str]) -> dict[str, list[str]]:
     return {name: crates[name] for name in crates if name in needed}
 
 
-def lay_out(names: Iterable[str], room: pathlib.Path) -> list[str]:
-    """Copies crates and all that they stand on to a folder, without their tests and edits. Returns their names."""
-    needed = needed_for((ROOT / "crates.txt").read_text("utf-8"), names)
+def lay_out(names: Iterable[str], room: pathlib.Path, source: pathlib.Path | None = None) -> list[str]:
+    """Copies crates and all crates below them to a folder, without their tests and edits. Returns their names. The crates are those of this
+    repository, or of another folder.
+    """
+    root = source or ROOT
+    needed = needed_for((root / "crates.txt").read_text("utf-8"), names)
     for name in needed:
-        shutil.copytree(ROOT / "crates" / name, room / "crates" / name, ignore=LEFT_OUT)
+        shutil.copytree(root / "crates" / name, room / "crates" / name, ignore=LEFT_OUT)
         forget_tests(room / "crates" / name)
     (room / "crates.txt").write_text("".join(f"{name}: {' '.join(below)}\n" for name, below in needed.items()), "utf-8")
-    shutil.copy(ROOT / "HANDLES", room)
+    shutil.copy(root / "HANDLES", room)
     return [*needed]
 
 
 def forget_tests(folder: pathlib.Path) -> None:
-    """Has the sources of a copied crate name no tests, in the layout in which `rt` wants them."""
+    """Removes the lines that include tests from the sources of a copied crate, and keeps the layout that `rt` requires."""
     for path in folder.glob("src/**/*.rt"):
         text = path.read_text("utf-8")
         if NAMES_TESTS in text:
@@ -373,7 +370,7 @@ def forget_tests(folder: pathlib.Path) -> None:
 
 
 def keep(program: pathlib.Path, path: pathlib.Path) -> None:
-    """Puts a program in its place at once, so that no other process finds a part of it."""
+    """Puts a program in its place in one step, so that no other process finds a part of it."""
     beside = path.with_name(f".{path.name}.{os.getpid()}")
     path.parent.mkdir(exist_ok=True)
     try:
@@ -385,7 +382,7 @@ def keep(program: pathlib.Path, path: pathlib.Path) -> None:
 
 
 def is_wide() -> bool:
-    """Whether this machine's processors are of the level x86-64-v3."""
+    """Whether this machine's processors have the level x86-64-v3."""
     with contextlib.suppress(OSError):
         found = re.search(r"^flags\s*:(.*)$", PROCESSORS.read_text("utf-8"), re.MULTILINE)
         return found is not None and WIDE_FLAGS <= {*found[1].split()}
@@ -393,7 +390,7 @@ def is_wide() -> bool:
 
 
 def build_in(room: pathlib.Path, names: list[str], programs: dict[str, pathlib.Path]) -> None:
-    """Has `rt ci` prove the crates of a folder, and keeps the programs that some of them are, each at its place."""
+    """Has `rt ci` prove the crates of a folder, and copies the programs that some of them are to these paths."""
     status, lines = rt_ci(room, names)
     built = {name: room / "crates" / name / "out" / name for name in programs}
     missing = [name for name, path in built.items() if not path.exists()]
@@ -406,21 +403,21 @@ def build_in(room: pathlib.Path, names: list[str], programs: dict[str, pathlib.P
 
 
 def build_crate(name: str) -> None:
-    """Builds the program of a crate: `rt ci` proves it and what it stands on, in a copy without tests and edits."""
+    """Builds the program of a crate: `rt ci` proves the crate and its dependencies, in a copy without tests and edits."""
     with tempfile.TemporaryDirectory(prefix="bar-build-") as folder:
         room = pathlib.Path(folder)
         build_in(room, lay_out([name], room), {name: ROOT / "crates" / name / "out" / name})
 
 
 def kit() -> pathlib.Path:
-    """The folder of the toolchain: its first page is there, whose path `rt doc` prints."""
+    """Returns the folder of the toolchain, which has the page whose path `rt doc` prints."""
     with running_rt("doc", stdout=subprocess.PIPE) as process:
         printed, _ = await_end(process)
     return pathlib.Path(printed.decode().strip()).parent
 
 
 def link_libraries(room: pathlib.Path) -> pathlib.Path:
-    """Links the libraries of a folder of crates in one folder, and returns it."""
+    """Links the libraries of a folder of crates in one folder, and returns this folder."""
     libraries = room / "libraries"
     libraries.mkdir()
     for path in room.glob("crates/*/out/rlib/*.rlib"):
@@ -428,51 +425,53 @@ def link_libraries(room: pathlib.Path) -> pathlib.Path:
     return libraries
 
 
-def wide_words(tools: pathlib.Path, libraries: pathlib.Path, below: list[str], to: pathlib.Path) -> list[list[str]]:
-    """The commands that prove, compile and link the program for processors with AVX2, over these libraries, in the crate's folder."""
-    places = {name: next(folder for folder in (libraries, tools / "rlibs") if (folder / f"{name}.rlib").exists()) for name in below}
-    own = [word for name, folder in places.items() for word in ("--extern", f"{name}={folder / name}.rlib")]
+def wide_words(tools: pathlib.Path, libraries: pathlib.Path, name: str, below: list[str], to: pathlib.Path) -> list[list[str]]:
+    """Returns the commands that prove, compile and link a program for processors with AVX2. They are run in the crate's folder."""
+    places = {each: next(folder for folder in (libraries, tools / "rlibs") if (folder / f"{each}.rlib").exists()) for each in below}
+    own = [word for each, folder in places.items() for word in ("--extern", f"{each}={folder / each}.rlib")]
     of_kit = ["--extern", f"std={tools}/rlibs/std.rlib", "-L", f"dependency={libraries}", "-L", f"dependency={tools}/rlibs"]
     logic = ["--antt-project", f"{tools}/rattle/logic/antt-project.json", "--logic-built", f"{tools}/logic_built"]
     code = ["--toolchain", f"{tools}/toolchain", "--backend", "llvm", f"--cpu={WIDE_PROCESSOR}", "-o", f"{to}.o"]
-    build = [f"{tools}/bin/rattle", "build", "--crate-name", CRATE.name, "src/main.rt", *own, *of_kit, *logic, "--jobs", "1"]
+    build = [f"{tools}/bin/rattle", "build", "--crate-name", name, "src/main.rt", *own, *of_kit, *logic, "--jobs", "1"]
     link = [f"{tools}/bin/rattle-link", "--target", "x86_64-unknown-linux-gnu", "--toolchain", f"{tools}/toolchain"]
     linked = ["-o", str(to), f"{to}.o", f"{tools}/c/libos_c.a", f"{tools}/c/liblibc_c.a"]
-    return [[*build, "--links", f"{CRATE.name}=", *code], [*link, *linked]]
+    return [[*build, "--links", f"{name}=", *code], [*link, *linked]]
 
 
-def build_wide(room: pathlib.Path) -> None:
-    """Proves and builds the program for processors with AVX2, over the libraries that `rt ci` proved in a folder of crates, and keeps it.
+def build_wide(room: pathlib.Path, name: str, path: pathlib.Path) -> None:
+    """Proves and builds the program of a crate for processors with AVX2, and copies it to a path. It uses the libraries that `rt ci` proved
+    in a folder of crates.
 
-    `rt run` takes a processor too, but proves all these libraries once more. So the toolchain's commands are called, as `rt` calls them.
+    `rt run` can also build for a processor, but proves all these libraries again. So the toolchain's commands are called, as `rt` calls
+    them.
     """
-    progress(f"{WIDE.name} is built, for this machine's processors")
-    below = crates_in((room / "crates.txt").read_text("utf-8"))[CRATE.name]
-    for words in wide_words(kit(), link_libraries(room), below, room / WIDE.name):
-        with running(words, cwd=room / "crates" / CRATE.name, stdout=subprocess.PIPE, stderr=subprocess.STDOUT) as process:
+    progress(f"{path.name} is built, for this machine's processors")
+    below = crates_in((room / "crates.txt").read_text("utf-8"))[name]
+    for words in wide_words(kit(), link_libraries(room), name, below, room / path.name):
+        with running(words, cwd=room / "crates" / name, stdout=subprocess.PIPE, stderr=subprocess.STDOUT) as process:
             printed, _ = await_end(process)
         if process.returncode:
             progress("\n".join(printed.decode(errors="replace").splitlines()[-SHOWN:]))
-            raise BuildFailed(f"`{words[0]}` over a copy of {CRATE} ends with status {status_of(process)}: see above", 1)
-    keep(room / WIDE.name, WIDE)
+            raise BuildFailed(f"`{words[0]}` over a copy of {name} ends with status {status_of(process)}: see above", 1)
+    keep(room / path.name, path)
 
 
 def build() -> None:
-    """Builds the program as `build_crate` does, and if this machine's processors have AVX2 also the one for these."""
+    """Builds the program as `build_crate` does. If this machine's processors have AVX2, it also builds the program for these."""
     missing = "program for this machine's processors" if PROGRAM.exists() else "program"
     progress(f"there is no {missing}: `rt ci` proves and builds it, which takes half an hour on four processors, or minutes if it was kept")
     with tempfile.TemporaryDirectory(prefix="bar-build-") as folder:
         room = pathlib.Path(folder)
         build_in(room, lay_out([CRATE.name], room), {CRATE.name: PROGRAM})
         if is_wide():
-            build_wide(room)
+            build_wide(room, CRATE.name, WIDE)
 
 
 def take_program(parser: argparse.ArgumentParser) -> None:
     """Adds the options that name the program."""
-    told = "the program (default: that of this repository, which is built if it isn't there)"
+    told = "the program (default: that of this repository, which is built if it is missing)"
     parser.add_argument("--bar", type=pathlib.Path, metavar="PATH", help=told)
-    parser.add_argument("--plain", action="store_true", help="don't take the program for processors with AVX2")
+    parser.add_argument("--plain", action="store_true", help="don't use the program for processors with AVX2")
 
 
 def take_programs(parser: argparse.ArgumentParser) -> None:
@@ -483,8 +482,8 @@ def take_programs(parser: argparse.ArgumentParser) -> None:
 
 
 def program_of(words: argparse.Namespace, plain: bool = False) -> pathlib.Path:
-    """The whole path of the program. That of this repository is the one for processors with AVX2 if this machine has them and it isn't
-    refused; it's built if it isn't there.
+    """Returns the absolute path of the program: the one that is named, or that of this repository, which is built if it is missing. If this
+    machine's processors have AVX2, that is the program for these, unless the plain one is asked for.
     """
     if words.bar:
         return program_at(words.bar)
@@ -496,19 +495,19 @@ def program_of(words: argparse.Namespace, plain: bool = False) -> pathlib.Path:
 
 
 def both_of(words: argparse.Namespace) -> list[pathlib.Path]:
-    """The program, and if it is that of this repository for processors with AVX2, the one for any processor behind it."""
+    """Returns the program. If it is that of this repository for processors with AVX2, the program for any processor follows it."""
     program = program_of(words)
     return [program, program_at(PROGRAM)] if program == WIDE.resolve() else [program]
 
 
 def program_at(path: pathlib.Path) -> pathlib.Path:
-    """The whole path of a program that is there."""
+    """Returns the absolute path of a program. Raises a `Refusal` if there is none."""
     if not (path.is_file() and os.access(path, os.X_OK)):
         raise Refusal(f"there is no program at {path}: `rt run` in {CRATE} builds one")
     return path.resolve()
 
 
 def programs_of(words: argparse.Namespace) -> dict[str, pathlib.Path]:
-    """The program, by the name `now`, and behind `before` where an earlier one is named."""
+    """Returns the program by the name `now`. If an earlier one is named, it comes first, by the name `before`."""
     before = {"before": program_at(words.before)} if words.before else {}
     return before | {"now": program_of(words)}

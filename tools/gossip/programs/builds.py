@@ -1,4 +1,4 @@
-"""The programs beside `bar` that tools run: each is a crate of this repository."""
+"""The programs other than `bar` that the tools run. Each is a crate of this repository."""
 import dataclasses
 import pathlib
 
@@ -8,7 +8,7 @@ from gossip.scripts.console import progress
 
 @dataclasses.dataclass(frozen=True)
 class Beside:
-    """A program beside `bar`, by the name of its crate."""
+    """A program other than `bar`, by the name of its crate."""
 
     crate: str
 
@@ -17,12 +17,12 @@ class Beside:
         return ROOT / "crates" / self.crate / "out" / self.crate
 
 
-# a party over a link of the tools, or one that lies; one over a link in memory; and what changes datagrams for a core and for readers
+# a party, honest or lying, over a link of the tools; a party over a link in memory; and a program that tries changed datagrams and files
 PARTY, IN_MEMORY, FUZZ = Beside("bar_party"), Beside("bar_in_memory"), Beside("bar_fuzz")
 
 
 def built(program: Beside) -> pathlib.Path:
-    """The path of a program, which is built if it isn't there."""
+    """Returns the path of a program, which is built if it is missing."""
     if not program.path.exists():
         progress(f"the program of crates/{program.crate} isn't built: `rt ci` proves and builds it, which takes a while")
         build_crate(program.crate)

@@ -1,1 +1,1 @@
-"""What a run was, by the files that it left."""
+"""Reports on a run, from the files that it left."""

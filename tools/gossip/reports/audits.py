@@ -1,7 +1,8 @@
 """What an audit finds in the recordings of a session's peers: which exchanges there are, and whether each is balanced.
 
-An exchange is balanced where each party whose KEY its partner took has the partner's CASE in its own recording, by equal terms if the
-partner has its CASE too. The auditor has public keys alone. Recordings that were stopped are audited up to their last whole entries.
+An exchange is balanced if each party whose KEY its partner received has the partner's CASE in its own recording. If the partner has this
+party's CASE too, the terms of both have to be equal. The auditor has only public keys. If a recording has no end, it is audited up to its
+last complete entry.
 """
 import dataclasses
 import functools
@@ -22,7 +23,7 @@ UNBALANCED = re.compile(r"unbalanced (\d+) ([01]) (\d+) (\d+)")
 
 @dataclasses.dataclass(frozen=True)
 class Entry:
-    """An exchange that was audited, and by role, that of the initiator first, how much its CASE promises and whether its KEY came."""
+    """An exchange that was audited. By role, the initiator's first: how much the CASE promises, and whether the KEY was received."""
 
     exchange: Exchange
     cases: tuple[int, ...]
@@ -30,45 +31,45 @@ class Entry:
 
     @property
     def lacks(self) -> list[tuple[int, int]]:
-        """Each party that gave its key and has no CASE of its partner, with the partner."""
+        """Each party that gave its key and has no CASE from its partner, with the partner."""
         sides = self.exchange.initiator, self.exchange.responder
         return [(sides[role], sides[1 - role]) for role in (0, 1) if self.keys[role] and not self.cases[1 - role]]
 
 
 @dataclasses.dataclass(frozen=True)
 class Audit:
-    """What was audited: how many recordings, the exchanges in their order, and the first that isn't balanced; or why it wasn't audited."""
+    """The result of an audit: how many recordings it had, the exchanges in order, and the first unbalanced one; or why there is none."""
 
     recordings: int = 0
     entries: tuple[Entry, ...] = ()
     named: Exchange | None = None
-    # why it wasn't audited, and whether that is a failure of the auditor's own
+    # why there was no audit, and whether that is a failure
     refused: str | None = None
     is_failure: bool = False
-    # the parties whose recordings are refused, each with the reason: the audit went on without them
+    # the parties whose recordings are refused, each with the reason; the audit left them out
     left_out: dict[int, str] = dataclasses.field(default_factory=dict)
 
     @functools.cached_property
     def unbalanced(self) -> set[Exchange]:
-        """The exchanges that aren't balanced, as far as the auditor tells: the first one, and all in which a CASE is lacking."""
+        """The exchanges that the auditor shows to be unbalanced: the first one, and all in which a CASE is missing."""
         lacking = {entry.exchange for entry in self.entries if entry.lacks}
         return lacking | {self.named} if self.named else lacking
 
     @property
     def cause(self) -> str:
-        """Why the first exchange that isn't balanced isn't, in words."""
+        """The reason why the first unbalanced exchange is unbalanced."""
         lacks = next((entry.lacks for entry in self.entries if entry.exchange == self.named), [])
         told = [f"peer {party} gave its key and has no briefcase of peer {partner}" for party, partner in lacks]
         return listed(told) if told else "the terms of its briefcases differ"
 
     @property
     def balanced(self) -> str:
-        """How many exchanges there are, in words, where all are balanced."""
+        """The exchanges in words, if all of them are balanced."""
         return f"all {counted(len(self.entries), 'exchange')}" if len(self.entries) != 1 else "the one exchange"
 
     @property
     def line(self) -> str:
-        """What was found, in one line."""
+        """The result of the audit, in one line."""
         if self.refused:
             return f"the recordings weren't audited: {self.refused}"
         told = "the audit finds no exchange"
@@ -91,7 +92,7 @@ def exchange_of(number: str, push: str, initiator: str, responder: str) -> Excha
 
 
 def audit_of_text(recordings: int, printed: str, left_out: dict[int, str] | None = None) -> Audit:
-    """An audit of so many recordings, by the lines that were printed, and what was left out of it."""
+    """Returns the audit of `recordings` recordings that the printed lines describe, with the parties that were left out of it."""
     entries, named, last = [], None, None
     for last in printed.splitlines():
         if it := EXCHANGE.fullmatch(last):
@@ -105,18 +106,18 @@ def audit_of_text(recordings: int, printed: str, left_out: dict[int, str] | None
 
 
 def place_in(room: str | pathlib.Path, party: int) -> pathlib.Path:
-    """Where an audit of this folder finds a party's recording."""
+    """Returns the path at which an audit in the folder `room` finds a party's recording."""
     return pathlib.Path(room) / f"R.{party}.recording"
 
 
 def too_large(path: pathlib.Path) -> str | None:
-    """Why a file isn't read by the program, if it is too large."""
+    """Returns why the program doesn't read a file if the file is too large, else None."""
     size = path.stat().st_size
     return f"it has {size:,} bytes, and files up to {LARGEST_FILE:,} are read" if size > LARGEST_FILE else None
 
 
 def mend(folder: Folder, party: int, room: str) -> None:
-    """Puts a peer's recording, up to its last whole entry, where an audit of this folder finds it."""
+    """Puts a peer's recording where an audit in the folder `room` finds it. If it has no end, it is cut after its last complete entry."""
     place = place_in(room, party)
     recording = b"" if too_large(folder.recording(party)) else folder.recording(party).read_bytes()
     if not recording or entries_of(recording)[1]:
@@ -126,7 +127,7 @@ def mend(folder: Folder, party: int, room: str) -> None:
 
 
 def refused_alone(folder: Folder, session: Session, program: pathlib.Path, room: str) -> dict[int, str]:
-    """The recordings that an audit of each by itself refuses, by party, with the reason."""
+    """Returns the parties whose recordings are refused if each one is audited alone, with the reasons."""
     refused = {}
     for party in session.parties[:-1]:
         large = too_large(folder.recording(party))
@@ -137,7 +138,7 @@ def refused_alone(folder: Folder, session: Session, program: pathlib.Path, room:
 
 
 def leave_out(session: Session, left_out: Container[int], room: str) -> None:
-    """Takes parties out of the recordings of an audit: their own have nothing, and those of the others nothing from them."""
+    """Removes parties from the recordings of an audit: their own become empty, and the others lose the datagrams from these parties."""
     for party in session.parties[:-1]:
         place = place_in(room, party)
         head, kept = b"BARL\x01" + bytes.fromhex(session.id) + party.to_bytes(2, "big"), []
@@ -150,7 +151,7 @@ def leave_out(session: Session, left_out: Container[int], room: str) -> None:
 
 
 def audit_of(folder: Folder, session: Session, program: pathlib.Path) -> Audit:
-    """Audits the recordings of all peers of a session, where all are there, without those that are refused."""
+    """Audits the recordings of all peers of a session, if none is missing. Those that are refused are left out."""
     peers = range(1, session.peers + 1)
     missing = [f"party {party}" for party in peers if not folder.recording(party).is_file()]
     if missing:

@@ -1,8 +1,8 @@
-"""What the broadcaster of a session sent, as far as its files tell: its rules, its key, its stream and the manifests that it signed.
+"""What the broadcaster of a session sent, as its rules and its files determine it: its key, its stream and the manifests that it signed.
 
-Nobody records what it sent. It sends each manifest twice, in version 3 once more in the next round, each block twice to each peer of its
-fan-out, and a notice of those that it evicted in each round in which there are some, to peers that aren't evicted. A peer was evicted in
-the round before the first notice of it, so what was sent to it behind the first tick of that round isn't known.
+Nobody records what it sent. It sends each manifest twice, and in version 3 once more in the next round. It sends each block twice to each
+peer of the block's fan-out. If parties are evicted, it sends a notice of them in each round to the peers that aren't. A peer was evicted in
+the round before the first notice of it, so what was sent to it in that round isn't known.
 """
 import dataclasses
 import hashlib
@@ -18,13 +18,13 @@ from gossip.reports.flows import Flow
 from gossip.reports.replays import Logs
 from gossip.sessions.session_folder import Folder
 
-# the slots in which manifests and blocks are sent, and that of the next round in which a manifest is sent again since some version
+# the slots in which manifests and blocks are sent; after how many slots a manifest is sent again, and since which version
 MANIFEST_SLOTS, BLOCK_SLOTS = (0, 4), (1, 5)
 SLOT_AGAIN, VERSION_AGAIN = SLOTS + 2, 3
 
 
 def fan_out(session: Session, secret: bytes, update: Update) -> list[int]:
-    """The peers to which an update is sent: those with the least hashes."""
+    """Returns the peers to which an update is sent: those with the smallest hashes."""
 
     def rank(peer: int) -> tuple[bytes, int]:
         return hashlib.sha256(b"FAN1" + bytes.fromhex(session.id) + struct.pack(">IBH", *update, peer) + secret).digest(), peer
@@ -33,7 +33,7 @@ def fan_out(session: Session, secret: bytes, update: Update) -> list[int]:
 
 
 def block_datagram(session: Session, update: Update, receiver: int, content: bytes) -> bytes:
-    """The BLOCK of an update with this content."""
+    """Returns the BLOCK of an update with this content."""
     head = MAGIC + bytes([session.version, BLOCK]) + bytes.fromhex(session.id) + struct.pack(">HHIB", 0, receiver, *update)
     return head + len(content).to_bytes(2, "big") + content.ljust(CONTENT, b"\0")
 
@@ -47,7 +47,7 @@ class Cast(typing.NamedTuple):
 
 
 class Notice(typing.NamedTuple):
-    """A notice of evicted parties, and the datagram of it."""
+    """The evicted parties that a notice names, and its datagram."""
 
     parties: tuple[int, ...]
     datagram: bytes
@@ -55,7 +55,7 @@ class Notice(typing.NamedTuple):
 
 @dataclasses.dataclass(frozen=True)
 class Broadcaster:
-    """What the files of the broadcaster tell: its secret, its stream, the table of its manifests, and the parties that it evicted."""
+    """What the broadcaster's files contain: its secret, its stream, the table of its manifests, and the parties that it evicted."""
 
     secret: bytes
     stream: bytes
@@ -65,20 +65,20 @@ class Broadcaster:
 
 @dataclasses.dataclass(frozen=True)
 class Casts:
-    """What the broadcaster sent, each with its tick and receiver, and the rounds in which it isn't known what it sent to a peer."""
+    """What the broadcaster sent. `unsure` has the round of each evicted peer from which on it isn't known what was sent to the peer."""
 
     session: Session
     sent: list[Cast]
     unsure: dict[int, int]
 
     def is_unsure(self, flow: Flow) -> bool:
-        """Whether it isn't known if equal datagrams were sent: they came from the broadcaster in the round in which it evicted the peer."""
+        """Whether it is unknown what was sent: the flow is from the broadcaster, in or after the round in which it evicted the peer."""
         number = self.unsure.get(flow.receiver)
         return flow.sender == 0 and number is not None and any(tick >= first_tick(number) for tick in (*flow.sent, *flow.taken))
 
 
 def notices_of(session: Session, logs: Logs, evicted: set[int]) -> dict[int, Notice]:
-    """The EVICT datagrams that peers took and that name only parties that the broadcaster evicted, by round."""
+    """Returns the notices that peers received and that name only parties that the broadcaster evicted, by round."""
     reader, notices = Reader(session), {}
     for datagram in {datagram for log in logs.values() for _, datagram in log.taken if datagram[3:4] == b"\x0c"}:
         notice = reader.read(datagram)
@@ -88,14 +88,14 @@ def notices_of(session: Session, logs: Logs, evicted: set[int]) -> dict[int, Not
 
 
 def served_in(session: Session, first: dict[int, int], number: int) -> list[int]:
-    """The peers that were served in a round, by the first round in which each evicted one wasn't."""
+    """Returns the peers that were served in a round. `first` has the first round in which each evicted peer wasn't served."""
     return [peer for peer in range(1, session.peers + 1) if first.get(peer, number + 1) > number]
 
 
 def casts_of(session: Session, logs: Logs, broadcaster: Broadcaster) -> Casts:
-    """What a broadcaster sent, by its own files and by the notices that peers took."""
+    """Returns what a broadcaster sent, from its own files and the notices that peers received."""
     reader, notices, sent = Reader(session), notices_of(session, logs, broadcaster.evicted), []
-    # of a BLOCK that was taken the bytes are there
+    # the BLOCKs that were received, whose bytes are reused
     taken = {datagram: datagram for log in logs.values() for _, datagram in log.taken if datagram[3:4] == bytes([BLOCK])}
     first = dict.fromkeys(broadcaster.evicted, session.rounds + 1)
     for number in sorted(notices, reverse=True):
@@ -119,7 +119,7 @@ def casts_of(session: Session, logs: Logs, broadcaster: Broadcaster) -> Casts:
 
 
 def casts_in(folder: Folder, session: Session, logs: Logs, found: Mapping[str, bytes]) -> Casts | None:
-    """What the broadcaster of a folder sent, by what it found too, or None where its key, its stream or its table isn't there."""
+    """Returns what the broadcaster of a folder sent, or None if its key, its stream or its table, which `found` has, can't be read."""
     try:
         secret = bytes.fromhex(tomllib.loads(folder.key(0).read_text("utf-8"))["secret"])
         evicted = {int(name) for name in found if name != "table"}

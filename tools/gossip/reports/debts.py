@@ -5,13 +5,13 @@ from collections.abc import Mapping
 from gossip.reports.exchanges import first_tick, round_of
 from gossip.reports.run_data import Run, SideRow
 
-# the first version in which who owes a key isn't served, and how many rounds behind its own an exchange's key is owed
+# the first version in which a party that owes a key isn't served, and how many rounds after its own an exchange's key is owed
 VERSION, GRACE = 3, 2
 
 
 @dataclasses.dataclass(frozen=True)
 class Debt:
-    """The first and the last round in which a key was owed, and whether it came."""
+    """The first and the last round in which a key was owed, and whether it arrived."""
 
     first: int
     last: int
@@ -25,7 +25,7 @@ class Debt:
 
 
 def debt_of(session: Mapping[str, object], side: SideRow) -> Debt | None:
-    """The debt of a peer's partner in an exchange, in a session with these numbers, or None."""
+    """Returns the debt of a peer's partner in an exchange, in a session with these numbers, or None if there is none."""
     if session["version"] < VERSION or side.key_given is None:
         return None
     paid = min((tick for tick in (side.key_got, side.wrong_key) if tick is not None), default=None)
@@ -37,6 +37,6 @@ def debt_of(session: Mapping[str, object], side: SideRow) -> Debt | None:
 
 
 def debts_of(run: Run) -> tuple[int, int]:
-    """How many debts there were, and how many of them were paid."""
+    """Returns how many debts there were, and how many of them were paid."""
     debts = [debt for side in run.sides if (debt := debt_of(run.session, side))]
     return len(debts), sum(debt.is_paid for debt in debts)

@@ -1,4 +1,4 @@
-"""How the exchanges of a run ended: with both keys, cut short, with nothing to trade, without an answer, or so that it isn't known."""
+"""How the exchanges of a run ended: with both keys, cut short, with nothing to trade, without an answer, or in an unknown way."""
 import collections
 
 from gossip.reports.run_data import ExchangeName, ExchangeRow, Run, SideRow
@@ -7,9 +7,9 @@ BOTH_KEYS, CUT_SHORT, NOTHING, NO_ANSWER, UNKNOWN = "both keys", "cut short", "n
 
 
 def end_of(exchange: ExchangeRow, sides: list[SideRow]) -> str:
-    """How an exchange ended, by those of its sides whose recordings were replayed.
+    """Returns how an exchange ended, according to those of its sides whose recordings were replayed.
 
-    Of one in which nothing was promised its initiator alone knows why: if it was answered, there was nothing to trade.
+    If nothing was promised, only the initiator knows why: if it got an answer, there was nothing to trade.
     """
     if exchange.complete:
         return BOTH_KEYS
@@ -20,7 +20,7 @@ def end_of(exchange: ExchangeRow, sides: list[SideRow]) -> str:
 
 
 def ends_of(run: Run) -> dict[ExchangeName, str]:
-    """How each exchange of a run ended, by its name."""
+    """Returns how each exchange of a run ended, by the exchange's name."""
     sides = collections.defaultdict(list)
     for side in run.sides:
         sides[side.exchange].append(side)
@@ -28,5 +28,5 @@ def ends_of(run: Run) -> dict[ExchangeName, str]:
 
 
 def with_nothing(run: Run) -> set[ExchangeName]:
-    """The exchanges that had nothing to trade."""
+    """Returns the exchanges in which there was nothing to trade."""
     return {name for name, end in ends_of(run).items() if end == NOTHING}

@@ -1,13 +1,13 @@
-"""What a peer did and held, told by its own exchanges: by its recording and its transcript, with what its replay found.
+"""What a peer did and held, from its recording, its transcript and the findings of its replay.
 
-A peer holds an update from the BLOCK on that came under an admitted manifest, or from the KEY on that opens the partner's CASE well, where
-the update was alive at that tick. Signatures aren't checked here. The peer checked them, and what it sent and found tells what it admitted:
-  MANIFEST   it stands in the table that the peer found
-  CASE       its terms are those of the peer's own CASE, and in the tick in which it came the peer asked for its key first
-  KEY        it came in the last tick in which the peer asked for it, and where it opens badly, the peer has evidence against its sender
-So a forged datagram is taken for a real one only where it came in the tick of the real one and before it, or in the recording's last tick:
-a CASE of the same terms, a KEY that opens well or whose sender the peer has evidence against, an EVICT of a KEY's sender. Whatever came, an
-update that counts as held has the digest that the table says.
+A peer holds an update once it has received a BLOCK of it under an admitted manifest, or a KEY that opens the partner's CASE well, if the
+update was alive at that tick. Signatures aren't checked here. The peer checked them, and what it sent and found shows what it admitted:
+  MANIFEST   the table that the peer found has it
+  CASE       its terms are those of the peer's own CASE, and the peer first asked for its key in the tick in which it arrived
+  KEY        it arrived in the last tick in which the peer asked for it; if it opens badly, the peer has evidence against its sender
+So a forged datagram is mistaken for a real one only if it arrived before it in the same tick, or in the recording's last tick. It has to be
+a CASE of the same terms, a KEY that opens well or whose sender the peer has evidence against, or an EVICT of a KEY's sender. In all cases
+an update that counts as held has the digest that the table says.
 """
 import collections
 import dataclasses
@@ -25,19 +25,19 @@ def round_of(tick: int) -> int:
 
 
 def first_tick(number: int) -> int:
-    """The first tick of a round."""
+    """Returns the first tick of a round."""
     return SLOTS * (number - 1) + 1
 
 
 def content_size(block: bytes) -> int:
-    """How many bytes are played of a block: none where its length is too large."""
+    """Returns how many bytes of a block are played: none if the length in it is too large."""
     size = number_at(block, 0, 2)
     return size if size <= CONTENT else 0
 
 
 @dataclasses.dataclass(frozen=True)
 class Arrival:
-    """How an update came to a peer: the tick, the sender (0 is the broadcaster), how many bytes are to be played, and by which exchange."""
+    """How an update arrived at a peer: the tick, the sender (0 is the broadcaster), how many bytes are to be played, and the exchange."""
 
     tick: int
     sender: int
@@ -47,9 +47,9 @@ class Arrival:
 
 @dataclasses.dataclass
 class Side:
-    """A peer's side of an exchange: its own CASE and the partner's that it admitted, and the ticks of what was done about the keys.
+    """A peer's side of an exchange: its own CASE, the partner's CASE that it admitted, and when keys were asked for and given.
 
-    `since` is the tick in which it said something first.
+    `since` is the tick of the peer's first message.
     """
 
     exchange: Exchange
@@ -58,7 +58,7 @@ class Side:
     answered: bool = False
     own_case: Case | None = None
     case: Case | None = None
-    # when it asked for the partner's key, gave its own, was given one that opens well, and one that opens badly
+    # the ticks in which it asked for the partner's key, gave its own, was given one that opens well, and one that opens badly
     asked: list[int] = dataclasses.field(default_factory=list)
     paid: int | None = None
     was_paid: int | None = None
@@ -70,16 +70,16 @@ class Side:
 
     @property
     def gives(self) -> Promise | None:
-        """What this side promises, where its CASE is said."""
+        """What this side promises, or None if it sent no CASE."""
         return self.own_case and self.own_case.promise
 
     @property
     def gets(self) -> Promise | None:
-        """What the partner promises, where its CASE is admitted."""
+        """What the partner promises, or None if no CASE of it was admitted."""
         return self.case and self.case.promise
 
     def say(self, tick: int, message: Message) -> None:
-        """Notes what this peer sent."""
+        """Notes a message that this peer sent."""
         if message.kind == CASE:
             self.own_case = message
         elif message.kind == KEYREQ:
@@ -88,16 +88,16 @@ class Side:
             self.paid = tick
 
     def hear_case(self, tick: int, case: Case) -> None:
-        """Notes the partner's CASE, where it was admitted."""
+        """Notes the partner's CASE, if it was admitted."""
         if self.case is None and self.asked[:1] == [tick] and self.own_case and case.terms == self.own_case.terms:
             self.case = case
 
     def forget(self) -> None:
-        """Keeps of both CASEs no more than what they promise."""
+        """Discards the terms and ciphertexts of both CASEs, but keeps what they promise."""
         self.own_case, self.case = (it and dataclasses.replace(it, terms=None, cipher=b"") for it in (self.own_case, self.case))
 
     def awaits_key(self, tick: int) -> bool:
-        """Whether a KEY that comes in this tick may be the one that was admitted."""
+        """Whether a KEY that arrives in this tick may be the one that was admitted."""
         return self.case is not None and self.asked[-1] == tick and self.was_paid is None and self.was_cheated is None
 
 
@@ -109,12 +109,12 @@ class Account:
         self.reader = Reader(session)
         self.manifests = {manifest for _, manifest in manifests_of(log.findings.get("table", b""))}
         self.digests: dict[Update, bytes] = {}
-        # of the evicted the round of the first notice, and the tick of the last
+        # for each evicted party the round of the first notice, and the tick in which the last notice arrived
         self.notices: dict[int, int] = {}
         self.evicted: dict[int, int] = {}
-        # the sides of exchanges as they were entered
+        # the sides of exchanges, in the order in which the peer entered them
         self.sides: dict[Exchange, Side] = {}
-        # how updates came first: those that are held, and those that came behind their deadline
+        # how updates first arrived: those that are held, and those that arrived too late
         self.held: dict[Update, Arrival] = {}
         self.late: dict[Update, Arrival] = {}
         self.read_sent()
@@ -130,7 +130,7 @@ class Account:
                 self.sides.setdefault(message.exchange, Side(message.exchange, message.by_initiator, tick)).say(tick, message)
 
     def read_taken(self) -> None:
-        """Notes what the peer took and admitted."""
+        """Notes what the peer received and admitted."""
         for tick, datagram in self.log.taken:
             match self.reader.read(datagram):
                 case Manifest() as manifest if datagram in self.manifests and self.is_timely(manifest.round, tick):
@@ -144,7 +144,7 @@ class Account:
                     self.hear(tick, message, self.sides[message.exchange])
 
     def is_alive(self, number: int, tick: int) -> bool:
-        """Whether the updates of a round are alive at a tick. In the first tick in which they aren't, they are played."""
+        """Whether the updates of a round are alive at a tick. They are played in the first tick in which they aren't."""
         return round_of(tick) < number + self.session.life
 
     def is_timely(self, number: int, tick: int) -> bool:
@@ -152,12 +152,12 @@ class Account:
         return number <= round_of(tick) + 1 and self.is_alive(number, tick)
 
     def hear_block(self, tick: int, sent: Block) -> None:
-        """Notes a BLOCK that has the digest that the table says."""
+        """Notes a BLOCK, if it has the digest that the table says."""
         if hashlib.sha256(sent.block).digest() == self.digests.get(sent.update):
             self.hold(sent.update, Arrival(tick, 0, content_size(sent.block)))
 
     def hear(self, tick: int, message: Message, side: Side) -> None:
-        """Notes a datagram of the partner."""
+        """Notes a datagram from the partner."""
         if isinstance(message, Case):
             side.hear_case(tick, message)
         elif isinstance(message, Key) and side.awaits_key(tick) and self.evicted.get(side.partner) != tick:
@@ -166,7 +166,7 @@ class Account:
             side.answered = True
 
     def hear_key(self, tick: int, key: Key, side: Side) -> None:
-        """Notes a KEY that may be the one that was admitted: the updates that it opens, or that the partner cheated."""
+        """Notes what a KEY that may be the admitted one shows: the updates that it opens, or that the partner cheated."""
         blocks = opened(self.session, side.case, key.key, self.digests)
         if blocks is None:
             side.was_cheated = tick if str(side.partner) in self.log.findings else None
@@ -176,7 +176,7 @@ class Account:
             self.hold(update, Arrival(tick, side.partner, content_size(block), side.exchange))
 
     def hold(self, update: Update, arrival: Arrival) -> None:
-        """Notes that an update came: whether it's alive, and what comes first counts."""
+        """Notes that an update arrived, either alive or too late. In both cases only the first arrival counts."""
         into = self.held if self.is_alive(update.round, arrival.tick) else self.late
         into.setdefault(update, arrival)
 
@@ -187,7 +187,7 @@ class Account:
 
     @functools.cached_property
     def straight(self) -> set[Update]:
-        """The updates that came from the broadcaster."""
+        """The held updates that first arrived from the broadcaster."""
         return {update for update, it in self.held.items() if it.sender == 0}
 
     @functools.cached_property
@@ -200,6 +200,6 @@ class Account:
 
     @functools.cached_property
     def accusing_rounds(self) -> set[int]:
-        """The rounds in which evidence was sent to the broadcaster."""
+        """The rounds in which the peer sent evidence to the broadcaster."""
         heads = [(tick, head_of(datagram, self.session)) for tick, datagram in self.log.sent]
         return {round_of(tick) for tick, head in heads if head and head.kind == EVIDENCE}

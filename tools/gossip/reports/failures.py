@@ -1,4 +1,4 @@
-"""Why parties of a session failed, by their exit statuses and by what can be seen of their files and ports."""
+"""Why parties of a session failed, from their exit statuses and the state of their files and ports."""
 import errno
 import signal
 import tempfile
@@ -11,7 +11,7 @@ from gossip.sessions.session_folder import Folder, is_free, key_of
 
 
 def cause_of_files(folder: Folder, _session: Session, party: int) -> str | None:
-    """Which file of a party can't be read or written, or why the folder takes nothing, if one of these is so."""
+    """Returns which file of a party can't be read or written, or why nothing can be written in its folder, or None."""
     read = [folder.session, folder.key(party), *([] if party else [folder.stream])]
     written = [folder.key(party), *sorted(folder.path.glob(f"{folder.results.name}.{party}.*"))]
     for path, mode, done in [*((path, "rb", "read") for path in read), *((path, "r+b", "written") for path in written)]:
@@ -23,7 +23,7 @@ def cause_of_files(folder: Folder, _session: Session, party: int) -> str | None:
 
 
 def cause_of_room(folder: Folder) -> str | None:
-    """Why nothing can be written in a folder, if that is so."""
+    """Returns why nothing can be written in a folder, or None if something can."""
     try:
         with tempfile.TemporaryFile(dir=folder.path) as file:
             file.write(bytes(1 << 16))
@@ -34,7 +34,7 @@ def cause_of_room(folder: Folder) -> str | None:
 
 
 def cause_of_key(folder: Folder, session: Session, party: int) -> str:
-    """Whether the key was spent before, or isn't this session's."""
+    """Returns why a key is refused: it was spent before, it isn't this session's, or it can't be read."""
     try:
         return "its key was spent before" if key_of(folder, session, party).spent else "its key isn't this session's"
     except (Malformed, OSError) as fault:
@@ -42,12 +42,12 @@ def cause_of_key(folder: Folder, session: Session, party: int) -> str:
 
 
 def cause_of_link(_folder: Folder, session: Session, party: int) -> str | None:
-    """That the party's port is taken, if it is."""
+    """Returns a line if the party's port is taken, else None."""
     return None if is_free(session.port + party) else f"port {session.port + party} is taken"
 
 
 def cause_of_input(folder: Folder, session: Session, party: int) -> str | None:
-    """That the broadcaster's stream is too large, if it is."""
+    """Returns a line if the party is the broadcaster and its stream is too large, else None."""
     if party:
         return None
     return next(session.faults_of_stream(folder.stream.stat().st_size), None)
@@ -57,13 +57,13 @@ CAUSES = {Status.FILE: cause_of_files, Status.KEY: cause_of_key, Status.LINK: ca
 
 
 def cause_of(folder: Folder, session: Session, party: int, status: int) -> str:
-    """Why a party ended with this status, as far as it can be seen."""
+    """Returns why a party ended with this status, as far as its files and ports show it."""
     seen = CAUSES[status](folder, session, party) if status in CAUSES else None
     return seen or told_of_status(status)
 
 
 def causes_of(folder: Folder, session: Session, statuses: dict[int, int], status_of_all: int, kill: int | None) -> Iterator[str]:
-    """Why a session failed, by the statuses that parties and the command have. `kill` is the peer that was to be killed, or None."""
+    """Yields why a session failed, from the statuses of parties and of the command. `kill` is the peer that was to be killed, or None."""
     for party, status in statuses.items():
         if party == kill and status != 128 + signal.SIGKILL:
             yield f"party {party} was to be killed, and ended before"

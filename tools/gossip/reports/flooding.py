@@ -1,8 +1,8 @@
-"""Whether somebody flooded a party's port, by what its recording has between two ticks and by what its receive buffer lost; and how many
-datagrams were taken on this machine that have no place in a session.
+"""Whether somebody flooded a party's port, from what its recording has between two ticks and from what its receive buffer lost. Also how
+many datagrams were received on this machine that don't belong to a session.
 
-The real link takes so many datagrams and bytes between two ticks, and drops what comes behind them until the next one is due. What it drops
-the program doesn't tell; the system counts what all programs took.
+The real link takes a limited number of datagrams and bytes between two ticks, and drops the rest until the next tick is due. The program
+doesn't report what the link drops, but the system counts what all programs received.
 """
 import collections
 import dataclasses
@@ -15,16 +15,16 @@ from gossip.reports.run_data import Run
 from gossip.scripts.console import counted, listed
 from gossip.sessions.session_folder import Folder
 
-# how many datagrams and bytes the program's link takes between two ticks, and the most bytes of a datagram
+# how many datagrams and bytes the program's link takes between two ticks at most, and how many bytes a datagram has at most
 MOST_DATAGRAMS, MOST_BYTES, LARGEST = 16_384, 8 << 20, 65_507
 
-# more datagrams than other programs of a quiet machine take while a session runs, as when they look up names
+# more datagrams than other programs of a quiet machine receive while a session runs, for example when they look up names
 CLEAR = 1_000
 
 
 def most_of(session: Session, party: int) -> int:
-    """How many datagrams the parties of a session send one in all, at most: in each tick blocks, requests of all peers, and what is asked
-    for again of exchanges that live; and in each round evidence to the broadcaster.
+    """Returns how many datagrams the parties of a session send to one party at most. A peer is sent blocks, requests of all peers, and
+    repeats of exchanges that are alive, in each tick. The broadcaster is sent evidence in each round.
     """
     if party == 0:
         return session.ends * session.peers**2
@@ -32,13 +32,13 @@ def most_of(session: Session, party: int) -> int:
 
 
 def recorded_by(folder: Folder, party: int) -> Iterator[bytes | None]:
-    """The inputs of a party's recording, each a datagram or None for a tick, as they are read."""
+    """Yields the inputs of a party's recording as they are read, each a datagram, or None for a tick."""
     with folder.recording(party).open("rb") as recording:
         yield from (entry for entry, _ in inputs_in(recording))
 
 
 def full_ticks(entries: Iterable[bytes | None]) -> int:
-    """How many ticks a recording has before which no other datagram was taken, as there was no room for it."""
+    """Returns how many ticks a recording has before which there was no room for another datagram."""
     full = count = size = 0
     for entry in itertools.chain(entries, [None]):
         if entry is None:
@@ -50,14 +50,14 @@ def full_ticks(entries: Iterable[bytes | None]) -> int:
 
 
 def full_ticks_of(taken: Iterable[tuple[int, bytes]]) -> int:
-    """The same of what a peer took, each datagram with the tick before it."""
+    """Returns the same number for what a peer received, each datagram with the tick before it."""
     return sum(full_ticks([datagram for _, datagram in behind]) for _, behind in itertools.groupby(taken, key=lambda it: it[0]))
 
 
 @dataclasses.dataclass(frozen=True)
 class Flood:
-    """What is seen of a flood: the ticks that were full, the datagrams that a receive buffer lost, and those that were recorded though no
-    party sent them.
+    """The signs of a flood: how many ticks were full, how many datagrams a receive buffer lost, and how many were recorded though no party
+    sent them.
     """
 
     full: int
@@ -66,7 +66,7 @@ class Flood:
 
     @property
     def told(self) -> str:
-        """What is seen, in words."""
+        """A description of these signs."""
         parts = [f"{counted(self.full, 'tick')} had no room for more datagrams"] if self.full else []
         parts += [f"its receive buffer lost {counted(self.lost, 'datagram')}"] if self.lost else []
         parts += [f"it took {counted(self.strange, 'datagram')} that no party sent"] if self.strange else []
@@ -74,7 +74,7 @@ class Flood:
 
 
 def strange_of(run: Run) -> collections.Counter[int]:
-    """How many datagrams each party took that no party sent, or not as often, by the data of a run that no network disturbed."""
+    """Returns how many datagrams each party received that weren't sent, or not as often, from the data of an undisturbed run."""
     strange = collections.Counter()
     for row in run.losses:
         strange[row.receiver] += row.unsent + row.copies
@@ -82,10 +82,10 @@ def strange_of(run: Run) -> collections.Counter[int]:
 
 
 def outside_of(folder: Folder, session: Session, logs: Logs, taken: int | None) -> int | None:
-    """How many datagrams that were taken on this machine have no place in a session: no recording has them, and they aren't what peers sent
-    the broadcaster. None where it isn't known how many were taken.
+    """Returns how many of the datagrams received on this machine don't belong to a session: no recording has them, and they aren't what
+    peers sent to the broadcaster. Returns None if it isn't known how many were received.
 
-    The broadcaster is sent evidence alone. Where a peer has no log, as much as it may send is left out.
+    The broadcaster is sent only evidence. If a peer has no log, the most that it may send is subtracted.
     """
     if taken is None:
         return None
@@ -102,8 +102,8 @@ def outside_of(folder: Folder, session: Session, logs: Logs, taken: int | None) 
 
 
 def floods_of(folder: Folder, session: Session, drops: dict[int, int], strange: Mapping[int, int] | None = None) -> dict[int, Flood]:
-    """What is seen of floods, by party: a tick of its recording is full, its buffer lost more than the session's parties send it, or many
-    of the datagrams that it took were sent by none of them.
+    """Returns the signs of floods, by party. A party was flooded if a tick of its recording is full, or if its buffer lost more than the
+    session's parties send it. It was also flooded if many of the datagrams that it received were sent by none of them.
     """
     floods, strange = {}, strange or {}
     for party in session.parties:
@@ -118,14 +118,14 @@ def floods_of(folder: Folder, session: Session, drops: dict[int, int], strange: 
 
 
 def flood_lines(floods: dict[int, Flood]) -> Iterator[str]:
-    """A line for each party that was flooded."""
+    """Yields a line for each party that was flooded."""
     for party, flood in sorted(floods.items()):
         rest = "; the rest was dropped" if flood.full or flood.lost else ""
         yield f"party {party} was flooded from outside the session: {flood.told}{rest}"
 
 
 def outside_told(outside: int | None) -> str | None:
-    """What is said of datagrams that have no place in a session, or None where they are few."""
+    """Returns a line on the datagrams that don't belong to a session, or None if they are few."""
     if not outside or outside <= CLEAR:
         return None
     taken = f"{counted(outside, 'datagram')} that no recording has were taken on this machine while the session ran"
@@ -133,7 +133,7 @@ def outside_told(outside: int | None) -> str | None:
 
 
 def size_faults(folder: Folder, session: Session) -> Iterator[str]:
-    """The recordings that are larger than their ticks have room for: each datagram has three bytes more, and each tick one."""
+    """Yields a fault for each recording too large for its ticks. Each datagram has three bytes more in it, and each tick has one."""
     most = session.ticks * (MOST_BYTES + 3 * MOST_DATAGRAMS + 1) + MOST_BYTES
     for party in session.parties[:-1]:
         size = folder.recording(party).stat().st_size

@@ -1,14 +1,14 @@
 """Equal datagrams from one party to another, and which of them were lost.
 
-A datagram is told from another by its bytes, its sender and its receiver. Of equal ones that were sent some times and taken fewer times,
-those count as lost behind which none was taken within a tick.
+Two datagrams are equal if their bytes, senders and receivers are equal. If equal datagrams were received fewer times than they were sent,
+those count as lost after which none was received within a tick.
 """
 import dataclasses
 
 
 @dataclasses.dataclass(frozen=True, slots=True)
 class Flow:
-    """The ticks in which equal datagrams from one party to another were sent and taken."""
+    """The ticks in which equal datagrams from one party to another were sent and received."""
 
     sender: int | None
     receiver: int | None
@@ -19,12 +19,12 @@ class Flow:
 
     @property
     def lost(self) -> list[int]:
-        """The ticks in which those were sent that weren't taken."""
+        """The ticks in which the lost datagrams were sent."""
         return lost_of(self.sent, self.taken)
 
 
 def lost_of(sent: list[int], taken: list[int]) -> list[int]:
-    """The ticks in which datagrams were sent that weren't taken, by the ticks in which equal ones were sent and taken."""
+    """Returns the ticks in which lost datagrams were sent, given the ticks in which equal ones were sent and received."""
     lost, at, spare = [], 0, len(sent) - len(taken)
     for tick in sent:
         if spare > 0 and (at == len(taken) or taken[at] > tick + 1):

@@ -1,6 +1,6 @@
-"""Gathers what a run of a session was, from the logs of its peers, what an auditor and the judge say, and the files of its folder.
+"""Gathers the data of a run of a session, from the logs of its peers, what the auditor and the judge say, and the files of its folder.
 
-It is gathered of what every run leaves, a live one and a simulated one.
+Every run leaves what this needs, whether it is live or simulated.
 """
 import collections
 import dataclasses
@@ -39,17 +39,17 @@ from gossip.sessions.session_folder import Findings, Folder
 VERDICT = re.compile(r"party (\d+) fault (F\d+)")
 
 
-# what the judge says of evidence, by who keeps it and whom it accuses
+# what the judge says about evidence, by the keeper and the accused
 Verdicts = dict[tuple[int, int], str]
 
 
 def way_of(arrival: Arrival) -> str:
-    """How an update came."""
+    """Returns the way in which an update arrived."""
     return BLOCK_WAY if arrival.exchange is None else PUSH_WAY if arrival.exchange.push else BALANCED_WAY
 
 
 def name_in_rows(exchange: Exchange) -> ExchangeName:
-    """The name of an exchange as rows have it."""
+    """Returns the name of an exchange in the form that rows have."""
     return ExchangeName(exchange.round, EXCHANGE_KINDS[exchange.push], exchange.initiator, exchange.responder)
 
 
@@ -61,7 +61,7 @@ def size_of(promise: Promise | None) -> int:
 
 
 def side_row(party: int, side: Side) -> SideRow:
-    """A peer's side of an exchange."""
+    """Returns the row of a peer's side of an exchange."""
     gives, gets = side.gives, side.gets
     return SideRow(
         party,
@@ -83,7 +83,7 @@ def side_row(party: int, side: Side) -> SideRow:
 
 
 def update_row(account: Account, update: Update, arrival: Arrival, in_time: bool) -> UpdateRow:
-    """An update that came to a peer."""
+    """Returns the row of an update that arrived at a peer."""
     return UpdateRow(
         account.party,
         update.round,
@@ -98,14 +98,14 @@ def update_row(account: Account, update: Update, arrival: Arrival, in_time: bool
 
 
 def update_rows(account: Account) -> Iterator[UpdateRow]:
-    """The updates that came to a peer: those that came in time, and those that came only behind that."""
+    """Yields the updates that arrived at a peer: first those that arrived in time, then those that arrived only too late."""
     late = {update: it for update, it in account.late.items() if update not in account.held}
     for in_time, arrivals in ((True, account.held), (False, late)):
         yield from (update_row(account, update, it, in_time) for update, it in sorted(arrivals.items()))
 
 
 def round_rows(account: Account, released: collections.Counter[int], losses: Losses) -> Iterator[RoundRow]:
-    """What a peer did in each round that it took ticks of."""
+    """Yields what a peer did in each round in which it had a tick."""
     came = collections.Counter(round_of(arrival.tick) for arrival in account.held.values())
     played = collections.Counter(update.round + account.session.life for update in account.played)
     for number in range(1, (account.log.ticks + SLOTS - 1) // SLOTS + 1):
@@ -130,7 +130,7 @@ def is_complete(side: Side) -> bool:
 
 
 def gap_of(rounds: list[RoundRow]) -> int:
-    """The most rounds in a row of a peer, among those in which something was due, in which it didn't play all of that."""
+    """Returns the largest number of rounds in a row in which a peer didn't play all that was due. Rounds with nothing due are skipped."""
     longest = now = 0
     for row in rounds:
         if row.due:
@@ -140,7 +140,7 @@ def gap_of(rounds: list[RoundRow]) -> int:
 
 
 def peer_row(account: Account, rounds: list[RoundRow], losses: Losses) -> PeerRow:
-    """A peer's totals."""
+    """Returns the row of a peer's totals."""
     log, sides = account.log, account.sides.values()
     ways = collections.Counter(way_of(account.held[update]) for update in account.played)
     return PeerRow(
@@ -171,7 +171,7 @@ def peer_row(account: Account, rounds: list[RoundRow], losses: Losses) -> PeerRo
 
 
 def release_rows(accounts: list[Account]) -> list[ReleaseRow]:
-    """The updates of the stream, by the manifests that peers admitted."""
+    """Returns the rows of the stream's updates, according to the manifests that peers admitted."""
     contents = {update: arrival.content for account in accounts for update, arrival in account.held.items()}
     straight = collections.Counter(update for account in accounts for update in account.straight)
     released = sorted(set().union(*(account.digests for account in accounts)))
@@ -179,7 +179,7 @@ def release_rows(accounts: list[Account]) -> list[ReleaseRow]:
 
 
 def exchange_rows(accounts: list[Account], audit: Audit | None, evidence: list[EvidenceRow]) -> Iterator[ExchangeRow]:
-    """The exchanges in which some peer said something, in their order."""
+    """Yields the rows of the exchanges in which a peer sent something, in order."""
     sides = collections.defaultdict(list)
     for account in accounts:
         for side in account.sides.values():
@@ -197,7 +197,7 @@ def exchange_rows(accounts: list[Account], audit: Audit | None, evidence: list[E
 
 
 def judged(folder: Folder, program: pathlib.Path, found: Findings) -> Verdicts:
-    """What the judge says on each evidence file of a folder, by who keeps it and whom it accuses, under the table of who keeps it."""
+    """Returns what the judge says about each evidence file of a folder, under the table of the party that keeps it."""
     pairs = [(party, name) for party, names in sorted(found.items()) for name in sorted(names) if name != "table"]
 
     def judge(pair: tuple[int, str]) -> str:
@@ -210,7 +210,7 @@ def judged(folder: Folder, program: pathlib.Path, found: Findings) -> Verdicts:
 
 
 def evidence_row(reader: Reader, keeper: int, accused: int, evidence: bytes, said: str | None) -> EvidenceRow:
-    """Evidence that a party keeps against another, with what the judge says of it."""
+    """Returns the row of evidence that a party keeps against another. `said` is what the judge says about it."""
     try:
         parts = parts_of(evidence)
     except Malformed:
@@ -229,7 +229,7 @@ def evidence_row(reader: Reader, keeper: int, accused: int, evidence: bytes, sai
 
 
 def evidence_rows(session: Session, found: Findings, verdicts: Verdicts) -> Iterator[EvidenceRow]:
-    """The evidence that parties keep."""
+    """Yields the rows of the evidence that parties keep."""
     reader = Reader(session)
     for keeper, names in sorted(found.items()):
         for accused in sorted(int(name) for name in names if name != "table"):
@@ -237,7 +237,7 @@ def evidence_rows(session: Session, found: Findings, verdicts: Verdicts) -> Iter
 
 
 def eviction_rows(accounts: list[Account], evidence: list[EvidenceRow]) -> Iterator[EvictionRow]:
-    """The parties against which the broadcaster keeps evidence, or which a notice names where the broadcaster left no findings."""
+    """Yields the parties against which the broadcaster keeps evidence. If there are none, yields those that a notice names."""
     faults = {row.accused: row.fault for row in evidence if row.keeper == 0}
     notices = [notice for account in accounts for notice in account.notices.items()]
     parties = faults or dict.fromkeys(sorted({party for party, _ in notices}))
@@ -250,7 +250,7 @@ def eviction_rows(accounts: list[Account], evidence: list[EvidenceRow]) -> Itera
 
 
 def audit_of_run(audit: Audit | None) -> dict[str, object] | None:
-    """What the auditor said, as a run has it."""
+    """Returns what the auditor said, in the form that `Run` has."""
     if audit is None:
         return None
     named = list(name_in_rows(audit.named)) if audit.named else None
@@ -260,7 +260,7 @@ def audit_of_run(audit: Audit | None) -> dict[str, object] | None:
 
 
 def accounts_of(session: Session, logs: Logs, count: Count) -> list[Account]:
-    """What peers did and held, by their logs. It's told how many of them are gathered, where that takes long."""
+    """Returns what peers did and held, from their logs. If this needs much time, lines report how many are gathered."""
     accounts = []
     for party, log in sorted(logs.items()):
         accounts.append(Account(session, party, log))
@@ -270,11 +270,11 @@ def accounts_of(session: Session, logs: Logs, count: Count) -> list[Account]:
 
 @dataclasses.dataclass(frozen=True)
 class Known:
-    """What is known of a run beside the logs of its peers.
+    """What is known about a run besides the logs of its peers.
 
-    These are the audit, what the broadcaster sent, the findings of all parties by party, the verdicts on evidence by who keeps it and whom
-    it accuses, why peers have no replay by peer, what differs with its peer, the exit statuses by party, the peers that lie, and how many
-    datagrams were taken that have no place in the session. Where no findings are given, they are those of the logs.
+    `casts` is what the broadcaster sent. `found` has the findings by party; if it is None, those of the logs are used. `refused` has by
+    peer why there is no replay. `differ` has what differs, each with its peer, and `statuses` the exit statuses by party. `outside` is how
+    many datagrams were received that don't belong to the session.
     """
 
     audit: Audit | None = None
@@ -288,19 +288,19 @@ class Known:
     outside: int | None = None
 
     def peer_row(self, peer: int) -> PeerRow:
-        """The row of a peer without a log."""
+        """Returns the row of a peer without a log."""
         return PeerRow(peer, refused=self.refused.get(peer, "it left no recording"))
 
     def tell(self, row: PeerRow) -> None:
-        """Adds to the row of a peer what no log tells."""
+        """Adds to the row of a peer what isn't in its log."""
         row.status, row.lies = self.statuses.get(row.peer), row.peer in self.liars
         row.differs = [told for party, told in self.differ if party == row.peer]
 
 
 def run_of(session: Session, logs: Logs, known: Known = Known()) -> Run:
-    """A run, by the logs of its peers and what else is known of it."""
+    """Returns the data of a run, from the logs of its peers and what else is known about it."""
     found = known.found if known.found is not None else {party: log.findings for party, log in logs.items()}
-    # the last thing of those that are gathered is what was lost
+    # a step for each log, and a last one for what was lost
     count = Count("gathered", len(logs) + 1)
     accounts = accounts_of(session, logs, count)
     losses, releases = Losses(session, logs, known.casts), release_rows(accounts)
@@ -333,7 +333,7 @@ def run_of(session: Session, logs: Logs, known: Known = Known()) -> Run:
 
 
 def gathered(folder: Folder, session: Session, program: pathlib.Path, logs: Logs, known: Known) -> Run:
-    """The run of a folder, with what its broadcaster sent and what the judge says of its evidence beside what else is known."""
+    """Returns the data of a folder's run. Adds to what is known what its broadcaster sent, the findings and the verdicts."""
     found = folder.findings()
     casts, verdicts = casts_in(folder, session, logs, found.get(0, {})), judged(folder, program, found)
     return run_of(session, logs, dataclasses.replace(known, casts=casts, found=found, verdicts=verdicts))

@@ -1,6 +1,6 @@
-"""What peers lacked of a stream when it was due, and why, as far as it's seen.
+"""Which updates peers lacked when they were due, and why, as far as this is known.
 
-It was of the last round, which isn't traded, or datagrams to the peer were lost, or it didn't come in time.
+The update was of the last round, which isn't traded, or the peer's receive buffer lost datagrams, or the update didn't arrive in time.
 
 Peers that were stopped or lied, and those without a replay, aren't counted.
 """
@@ -14,7 +14,7 @@ from gossip.scripts.console import counted, listed
 
 @dataclasses.dataclass(frozen=True)
 class Lacking:
-    """How many updates peers lacked: of the last round, others of a peer whose receive buffer ran over, and all others."""
+    """How many updates peers lacked: those of the last round, others at peers whose receive buffers ran over, and all others."""
 
     last: int = 0
     dropped: int = 0
@@ -26,7 +26,7 @@ class Lacking:
 
 
 def lacking(run: Run, drops: dict[int, int]) -> Lacking:
-    """What peers lacked, by the data of a run and how many datagrams the receive buffer of each party lost."""
+    """Returns what peers lacked, from the data of a run and the number of datagrams that each party's receive buffer lost."""
     last, played = run.session["rounds"], collections.Counter()
     played.update((row.peer, row.round == last) for row in run.updates if row.played)
     streamed = collections.Counter(row.round == last for row in run.releases if row.bytes != 0)
@@ -40,7 +40,7 @@ def lacking(run: Run, drops: dict[int, int]) -> Lacking:
 
 
 def lines_of(run: Run, drops: dict[int, int]) -> Iterator[str]:
-    """A line on what peers lacked, or none where they lacked nothing."""
+    """Yields a line on what peers lacked, if they lacked anything."""
     lacks, peers = lacking(run, drops), run.session["peers"]
     told = []
     if lacks.last:

@@ -1,4 +1,4 @@
-"""What came of the peers of a run that lied: who kept evidence against them, whether they were evicted, and what they cost the others."""
+"""What happened to the peers of a run that lied: who kept evidence against them, whether they were evicted, what they cost the others."""
 import collections
 import json
 from collections.abc import Container, Iterator
@@ -9,7 +9,7 @@ from gossip.reports.run_data import Run, SideRow
 from gossip.scripts.console import Refusal, counted, listed
 from gossip.sessions.session_folder import Folder
 
-# the faults that the judge tells, in words
+# the faults that the judge names, in words
 FAULTS = {
     "F1": "a bad opening",
     "F2": "bad terms",
@@ -22,7 +22,7 @@ FAULTS = {
 
 
 def liars_in(folder: Folder) -> dict[int, str]:
-    """The peers that lied in the run of a folder, each with its lie. There are none where nothing is told of its network."""
+    """Returns the peers that lied in the run of a folder, each with its lie. There are none if the folder has no network.json."""
     try:
         liars = {int(party): lie for party, lie in json.loads(folder.network.read_text("utf-8"))["liars"].items()}
         others = [lie for lie in liars.values() if lie not in LIES]
@@ -40,12 +40,12 @@ def fault_of(name: str | None) -> str:
 
 
 def keepers_of(run: Run, party: int) -> list[int]:
-    """The honest peers that keep evidence against a party."""
+    """Returns the peers that keep evidence against a party."""
     return sorted({row.keeper for row in run.evidence if row.accused == party and row.keeper})
 
 
 def line_of(run: Run, party: int, lie: str) -> str:
-    """What came of a liar, in words."""
+    """Returns a line on what happened to a liar."""
     keepers, evicted = keepers_of(run, party), {row.party: row for row in run.evictions}.get(party)
     kept = f"evidence of it is kept by {listed(f'peer {peer}' for peer in keepers)}" if keepers else "no peer keeps evidence of it"
     if evicted is None:
@@ -55,13 +55,13 @@ def line_of(run: Run, party: int, lie: str) -> str:
 
 
 def shorted(run: Run, liars: Container[int]) -> tuple[list[SideRow], list[SideRow]]:
-    """The sides on which an honest peer gave its key and opened nothing, and those of them in exchanges with liars."""
+    """Returns the sides on which an honest peer gave its key and opened nothing, and those of them with a liar as partner."""
     sides = [side for side in run.sides if side.peer not in liars and side.key_given is not None and side.key_got is None]
     return sides, [side for side in sides if side.partner in liars]
 
 
 def lines_of_shorted(run: Run, liars: dict[int, str]) -> Iterator[str]:
-    """What was unfair to honest peers, in words: where they gave their keys and opened nothing."""
+    """Yields lines on what was unfair to honest peers: that they gave their keys and opened nothing."""
     sides, with_liars = shorted(run, liars)
     gave = sum(side.key_given is not None for side in run.sides if side.peer not in liars)
     honest = len(sides) - len(with_liars)
@@ -75,13 +75,13 @@ def lines_of_shorted(run: Run, liars: dict[int, str]) -> Iterator[str]:
 
 
 def lines_of(run: Run, liars: dict[int, str]) -> Iterator[str]:
-    """What came of the liars of a run, a line each, and what was unfair."""
+    """Yields a line on each liar of a run, and lines on what was unfair."""
     yield from (line_of(run, party, lie) for party, lie in sorted(liars.items()))
     yield from lines_of_shorted(run, liars)
 
 
 def faults_of(run: Run, liars: dict[int, str]) -> Iterator[str]:
-    """What shouldn't be: that an honest peer is accused, or that a liar isn't evicted against whom a peer keeps evidence."""
+    """Yields what mustn't happen: an honest peer is accused, or a peer keeps evidence against a liar that isn't evicted."""
     evicted = {row.party for row in run.evictions}
     framed = sorted((evicted | {row.accused for row in run.evidence}) - {*liars})
     if framed:
@@ -93,6 +93,6 @@ def faults_of(run: Run, liars: dict[int, str]) -> Iterator[str]:
 
 
 def audit_failures(audit: Audit, liars: dict[int, str]) -> list[str]:
-    """What an audit failed in: its own failure, or an exchange that isn't balanced and in which nobody lied."""
+    """Returns the failures of an audit. With liars they count only if the audit itself failed or an unbalanced exchange has no liar."""
     honest = [it for it in audit.unbalanced if it.initiator not in liars and it.responder not in liars]
     return audit.failures if not liars or audit.is_failure or honest else []

@@ -1,4 +1,4 @@
-"""What parties sent each other against what was taken: what was lost, what came twice, what nobody sent, and the bytes of each kind."""
+"""What parties sent each other compared with what was received: what was lost, repeated or never sent, and the bytes of each kind."""
 import collections
 
 from gossip.formats.files import Session, head_of
@@ -11,9 +11,9 @@ from gossip.reports.run_data import LossRow, TrafficRow
 
 
 def flows_of(session: Session, logs: Logs, casts: Casts | None) -> list[Flow]:
-    """All flows of a session, by the logs of its peers and what the broadcaster sent, if that is known.
+    """Returns all flows of a session, from the logs of its peers and what the broadcaster sent, if that is known.
 
-    Where a datagram has no head of the session, the sender is none.
+    If a received datagram has no header of the session, its sender is None.
     """
     flows: dict[tuple[int | None, int | None, bytes], Flow] = {}
 
@@ -36,7 +36,7 @@ def flows_of(session: Session, logs: Logs, casts: Casts | None) -> list[Flow]:
 
 
 class Losses:
-    """What became of all datagrams of a session."""
+    """Counts what happened to all datagrams of a session."""
 
     def __init__(self, session: Session, logs: Logs, casts: Casts | None) -> None:
         self.senders, self.receivers = {*logs, *([0] if casts else [])}, {*logs}
@@ -50,20 +50,20 @@ class Losses:
                 self.compare(flow)
 
     def count(self, flow: Flow, is_sure: bool) -> None:
-        """Counts the datagrams and bytes of a flow, as far as it's sure what was sent."""
+        """Counts the datagrams and bytes of a flow: those received, and if `is_sure`, those sent."""
         for party, side, ticks in ((flow.sender, "sent", flow.sent if is_sure else ()), (flow.receiver, "taken", flow.taken)):
             if ticks:
                 counts = {side: len(ticks), f"bytes_{side}": flow.size * len(ticks), f"{side}_again": len(ticks) - 1}
                 self.add(party, flow.kind, counts)
 
     def add(self, party: int, kind: str, counts: dict[str, int]) -> None:
-        """Adds to what is counted of a party's datagrams of a kind."""
+        """Adds to the counts of a party's datagrams of a kind."""
         row = self.traffic.setdefault((party, kind), TrafficRow(party, kind))
         for name, more in counts.items():
             setattr(row, name, getattr(row, name) + more)
 
     def compare(self, flow: Flow) -> None:
-        """Counts what of a flow was lost, came more often than it was sent, and wasn't sent at all."""
+        """Counts the datagrams of a flow that were lost, received more often than sent, or never sent."""
         lost, sent, taken = flow.lost, len(flow.sent), len(flow.taken)
         pair = flow.sender, flow.receiver, flow.kind
         row = self.pairs.setdefault(pair, LossRow(*pair))
@@ -77,7 +77,7 @@ class Losses:
         self.add(flow.sender, flow.kind, {"known": sent, "lost": len(lost)})
 
     def rows(self) -> list[LossRow]:
-        """A row for each pair and kind of which something was lost, came more often or wasn't sent."""
+        """Returns a row for each pair and kind with datagrams that were lost, received more often than sent, or never sent."""
         rows = [self.pairs[pair] for pair in sorted(self.pairs)]
         return [row for row in rows if row.lost or row.copies or row.unsent]
 

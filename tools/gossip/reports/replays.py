@@ -1,4 +1,4 @@
-"""The replays of the recordings of a session's peers, and what they and the peers' own files don't agree in."""
+"""Replays the recordings of a session's peers, and compares the replays with the peers' own files."""
 import collections
 import dataclasses
 import itertools
@@ -16,9 +16,9 @@ from gossip.sessions.session_folder import Folder
 
 @dataclasses.dataclass
 class Log:
-    """What is known of a peer's run by its recording and its replay: what it took and sent, each with the tick before it.
+    """What a peer's recording and its replay show of its run: what it received and sent, each datagram with the tick before it.
 
-    The inputs to which it sent something are told by their numbers, counted from 1.
+    `answered` has the numbers of the inputs to which it sent something, counted from 1.
     """
 
     whole: bool
@@ -37,9 +37,9 @@ Logs = dict[int, Log]
 def log_of(
     recording: typing.BinaryIO, lines: Iterable[str], played: bytes, findings: dict[str, bytes], pool: dict[bytes, bytes] | None = None
 ) -> Log:
-    """A peer's log, by its recording, the lines that its replay printed, and what it played and found.
+    """Returns a peer's log, from its recording, the lines that its replay printed, and what it played and found.
 
-    Of datagrams that are the same bytes one is kept: the pool has those that other logs have.
+    Datagrams with the same bytes share one object. `pool` has the datagrams of other logs, and those of this one are added.
     """
     pool = {} if pool is None else pool
     tick, end, ticks, taken = 0, RECORDING_HEAD, [0], []
@@ -61,9 +61,9 @@ def log_of(
 
 
 def replay(folder: Folder, program: pathlib.Path, party: int, pool: dict[bytes, bytes] | None = None) -> Log | str:
-    """Replays a peer's recording, up to its last whole entry, and returns its log, or why there is none.
+    """Replays a peer's recording up to its last complete entry, and returns its log, or why there is none.
 
-    The pool has the datagrams of other logs.
+    `pool` has the datagrams of other logs.
     """
     own = path = folder.recording(party)
     large = too_large(own)
@@ -91,12 +91,12 @@ def replay(folder: Folder, program: pathlib.Path, party: int, pool: dict[bytes, 
 
 
 def lines_in(file: Iterable[str]) -> Iterator[str]:
-    """The lines of a file, without their ends."""
+    """Yields the lines of a file, without their newlines."""
     return (line.removesuffix("\n") for line in file)
 
 
 def replays_of(folder: Folder, program: pathlib.Path, parties: list[int]) -> tuple[Logs, dict[int, str]]:
-    """Replays these peers: their logs, and why others have none, each by party."""
+    """Replays these peers. Returns their logs by party, and by party why there is no log."""
     pool = {}
     answers = dict(zip(parties, spread(lambda party: replay(folder, program, party, pool), parties, "replays")))
     logs = {party: answer for party, answer in answers.items() if isinstance(answer, Log)}
@@ -107,7 +107,7 @@ def replays_of(folder: Folder, program: pathlib.Path, parties: list[int]) -> tup
 
 
 def played_differences(played: pathlib.Path, log: Log) -> Iterator[str]:
-    """What was played and is replayed otherwise. A peer that was stopped may have played less than its recording gives."""
+    """Yields how the played file differs from the replay. A peer that was stopped may have played less than its recording gives."""
     if not played.exists():
         yield "what it played is missing"
         return
@@ -117,14 +117,14 @@ def played_differences(played: pathlib.Path, log: Log) -> Iterator[str]:
 
 
 def found_differences(found: Mapping[str, bytes], log: Log) -> Iterator[str]:
-    """What was found and is found otherwise at the replay. A peer that was stopped hasn't written what it found."""
+    """Yields how the findings differ from those of the replay. A peer that was stopped hasn't written its findings."""
     names = sorted(name for name in found.keys() | log.findings.keys() if found.get(name) != log.findings.get(name))
     if log.whole and names:
         yield f"the replay finds other things: {', '.join(names)}"
 
 
 class Unsent(typing.NamedTuple):
-    """How many datagrams a peer took from another one that this one didn't send."""
+    """How many datagrams `party` received in the name of `sender` that `sender` didn't send."""
 
     party: int
     sender: int
@@ -132,9 +132,9 @@ class Unsent(typing.NamedTuple):
 
 
 def unsent(session: Session, logs: Logs) -> Iterator[Unsent]:
-    """For each peer and each other one that has a log, how many datagrams the first took from the second that this one didn't send.
+    """Yields the pairs of peers with logs in which the first received datagrams in the second's name that the second didn't send.
 
-    The network may repeat a datagram, so how often one was taken tells nothing.
+    The network may repeat a datagram, so it doesn't matter how often one was received.
     """
     sent = {party: {datagram for _, datagram in log.sent} for party, log in logs.items()}
     for party, log in logs.items():
@@ -145,7 +145,7 @@ def unsent(session: Session, logs: Logs) -> Iterator[Unsent]:
 
 
 def differences(folder: Folder, session: Session, logs: Logs) -> Iterator[tuple[int, str]]:
-    """What the peers' files, their replays and each other's transcripts don't agree in, each with its party."""
+    """Yields how the peers' files differ from their replays and from each other's transcripts, each difference with its party."""
     found = folder.findings()
     for party, log in logs.items():
         own = itertools.chain(played_differences(folder.played(party), log), found_differences(found[party], log))
@@ -155,7 +155,7 @@ def differences(folder: Folder, session: Session, logs: Logs) -> Iterator[tuple[
 
 
 def between_peers(session: Session, logs: Logs) -> tuple[int, int]:
-    """How many datagrams these peers sent each other, and how many they took from each other."""
+    """Returns how many datagrams these peers sent each other, and how many they received from each other."""
     sent = [head_of(datagram, session) for log in logs.values() for _, datagram in log.sent]
     taken = [head_of(datagram, session) for log in logs.values() for _, datagram in log.taken]
     return sum(head.receiver in logs for head in sent if head), sum(head.sender in logs for head in taken if head)

@@ -1,7 +1,7 @@
-"""What a run of a session was, as data: `session.json`, which docs/FORMATS.md describes, and the tables of which it consists.
+"""The data of a run of a session: `session.json`, which docs/FORMATS.md describes, and its tables.
 
-A table is a list of rows of one dataclass, whose fields are its columns. `gathering` makes a run's data of a folder, and the page of a
-session is drawn of nothing else.
+A table is a list of rows of one dataclass, whose fields are its columns. `gathering` makes the data of a run from a folder. The page of a
+session is drawn from this data, and for a video also from video.json.
 """
 import dataclasses
 import json
@@ -13,7 +13,7 @@ from gossip.formats.files import Malformed
 
 FORMAT = "bar session 1"
 
-# the ways in which an update comes
+# the ways in which an update arrives
 BLOCK_WAY, BALANCED_WAY, PUSH_WAY = "block", "balanced", "push"
 
 
@@ -28,7 +28,7 @@ class ExchangeName(typing.NamedTuple):
 
 @dataclasses.dataclass
 class PeerRow:
-    """A peer and its totals. `status` is its exit status, where it's known; `refused` is why there is no replay, if there is none."""
+    """A peer and its totals. `status` is its exit status, if it is known; `refused` is why there is no replay, if there is none."""
 
     peer: int
     status: int | None = None
@@ -61,7 +61,7 @@ class PeerRow:
 
 @dataclasses.dataclass
 class RoundRow:
-    """What a peer did in a round that it ran through or in."""
+    """What a peer did in a round in which it had at least one tick."""
 
     peer: int
     round: int
@@ -77,7 +77,7 @@ class RoundRow:
 
 @dataclasses.dataclass(frozen=True)
 class ReleaseRow:
-    """An update of the stream: its bytes, where somebody held it, and how many peers had it first from the broadcaster."""
+    """An update of the stream: its size in bytes, if a peer held it, and how many peers got it first from the broadcaster."""
 
     round: int
     index: int
@@ -87,7 +87,7 @@ class ReleaseRow:
 
 @dataclasses.dataclass(frozen=True)
 class UpdateRow:
-    """An update that came to a peer: how, when and from whom it came first."""
+    """An update that arrived at a peer: how, when and from whom it first arrived."""
 
     peer: int
     round: int
@@ -102,8 +102,8 @@ class UpdateRow:
 
 @dataclasses.dataclass(frozen=True)
 class ExchangeRow:
-    """An exchange. `complete` is whether each side whose log is known gave its key and got the other's, `audit` what the auditor found,
-    and `evidence` how many parties keep some that is of it.
+    """An exchange. `complete` is whether each side whose log is known gave its key and got the other's. `audit` is what the auditor found.
+    `evidence` is how many rows of evidence are about the exchange.
     """
 
     round: int
@@ -122,7 +122,7 @@ class ExchangeRow:
 
 @dataclasses.dataclass(frozen=True)
 class SideRow:
-    """A peer's side of an exchange: its ledger in items, what both promised, and the ticks of its first message and of the keys."""
+    """A peer's side of an exchange: its totals in items, what both sides promised, and the ticks of its first message and of the keys."""
 
     peer: int
     round: int
@@ -159,7 +159,7 @@ class SideRow:
 
 @dataclasses.dataclass(frozen=True)
 class EvictionRow:
-    """A party that was evicted: the fault by which, the round of the first notice of it, and how many peers took one."""
+    """A party that was evicted: its fault, the round of the first notice of it, and how many peers received a notice."""
 
     party: int
     fault: str | None
@@ -169,7 +169,7 @@ class EvictionRow:
 
 @dataclasses.dataclass(frozen=True)
 class EvidenceRow:
-    """Evidence that a party keeps: its fault by the judge, the kinds of its datagrams, and the exchange that it is of, if it's of one."""
+    """Evidence that a party keeps: the fault that the judge finds, the kinds of its datagrams, and the exchange it is about, if any."""
 
     keeper: int
     accused: int
@@ -183,15 +183,16 @@ class EvidenceRow:
 
     @property
     def exchange(self) -> ExchangeName | None:
-        """The name of the exchange that it is of, if it's of one."""
+        """The name of the exchange that it is about, if any."""
         return None if self.round is None else ExchangeName(self.round, self.kind, self.initiator, self.responder)
 
 
 @dataclasses.dataclass
 class LossRow:
-    """What became of the datagrams of a kind from one party to another, where not all went as they were sent.
+    """What happened to the datagrams of a kind from one party to another, if not all arrived as they were sent.
 
-    `lost` are those that were sent and not taken, `copies` those that were taken more often than sent, `unsent` those that weren't sent.
+    `lost` counts those that were sent and not received, `copies` those that were received more often than sent, and `unsent` those that
+    were received and never sent.
     """
 
     sender: int
@@ -206,9 +207,10 @@ class LossRow:
 
 @dataclasses.dataclass
 class TrafficRow:
-    """The datagrams of a kind that a party sent and took, with the bytes of them, and how many of them it had sent or taken before.
+    """How many datagrams of a kind a party sent and received, how many bytes they have, and how many of them are equal to earlier ones.
 
-    Of those that it sent, `known` went to parties that have logs, so that it's known whether they were taken, and `lost` weren't.
+    `known` counts those that it sent to parties with logs, for which it is known whether they were received. `lost` counts those of them
+    that weren't.
     """
 
     party: int
@@ -243,10 +245,10 @@ def columns_of(row_type: type) -> list[str]:
 
 @dataclasses.dataclass
 class Run:
-    """What a run was: the session's numbers, how many bytes were streamed, what the auditor said and whether replays agree, and tables.
+    """The data of a run: the session's numbers, how many bytes were streamed, the audit, how many replays agree, and the tables.
 
-    `stream` counts updates that nobody held as full. `casts` is whether what the broadcaster sent is known, by its key and the stream.
-    `outside` is how many datagrams were taken on the machine meanwhile that no recording has, if it's known.
+    `stream` counts an update that nobody held as full. `casts` is whether it is known what the broadcaster sent.
+    `outside` is how many datagrams that don't belong to the session were received on the machine meanwhile, if this is known.
     """
 
     session: dict[str, int | str | None]
@@ -267,12 +269,12 @@ class Run:
     outside: int | None = None
 
     def document(self) -> dict[str, object]:
-        """The run as what JSON has, a table being its columns and its rows."""
+        """Returns the run as a JSON object, in which each table is an object of columns and rows."""
         names = [field.name for field in dataclasses.fields(self)]
         return {"format": FORMAT} | {name: tabled(name, getattr(self, name)) if name in TABLES else getattr(self, name) for name in names}
 
     def to_json(self) -> str:
-        """The text of session.json: a line for each row."""
+        """Returns the text of session.json, with a line for each row."""
         return f"{{{', '.join(map(spelled, *zip(*self.document().items())))}}}\n"
 
     @classmethod
@@ -289,13 +291,13 @@ class Run:
 
 
 def tabled(name: str, rows: Iterable[object]) -> dict[str, list]:
-    """A table with its columns."""
+    """Returns the object of a table, with its columns and rows."""
     columns = columns_of(TABLES[name])
     return {"columns": columns, "rows": [[getattr(row, column) for column in columns] for row in rows]}
 
 
 def spelled(name: str, value: object) -> str:
-    """A member of the document: of a table each row on a line of its own."""
+    """Returns the text of a member of the document. If it is a table, each row is on a line of its own."""
     if name not in TABLES:
         return f"{json.dumps(name)}: {json.dumps(value)}"
     rows = ",\n".join(json.dumps(row, separators=(",", ":")) for row in value["rows"])

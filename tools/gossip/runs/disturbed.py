@@ -1,4 +1,4 @@
-"""A live session that is disturbed: a relay between its parties loses, repeats and delays datagrams, and peers lie in what they send."""
+"""Runs a live session that is disturbed: a relay between its parties loses, repeats and delays datagrams, and peers lie."""
 import contextlib
 import dataclasses
 import pathlib
@@ -17,8 +17,8 @@ from gossip.sessions.session_folder import Folder, begin_of
 
 @dataclasses.dataclass(frozen=True)
 class Ended:
-    """How a run ended: the status of each party and of what ran them all, what each receive buffer lost, what the network did, and how many
-    datagrams all programs of this machine took, if it's known and none went by a relay.
+    """How a run ended: the status of each party, that of all of them together, what each receive buffer lost, and what the network did.
+    `taken` is how many datagrams all programs of this machine received, if this is known and there was no relay.
     """
 
     statuses: dict[int, int]
@@ -29,12 +29,12 @@ class Ended:
 
 
 def status_of_all(statuses: Mapping[int, int]) -> Status:
-    """The status of all parties together."""
+    """Returns the status of all parties together."""
     return Status.CHILD if any(statuses.values()) else Status.DONE
 
 
 def ways_of(network: Network, texts: Mapping[int, pathlib.Path]) -> dict[int, Way]:
-    """The way in which each party is started that reads a text of its own or lies."""
+    """Returns how to start each party that lies or reads its own copy of the session's text."""
     program = built(PARTY) if network.liars else None
     parties = texts.keys() | network.liars.keys()
     lies = {party: (str(program), "udp", lie) for party, lie in network.liars.items()}
@@ -42,14 +42,14 @@ def ways_of(network: Network, texts: Mapping[int, pathlib.Path]) -> dict[int, Wa
 
 
 def run_parties(folder: Folder, session: Session, program: pathlib.Path, network: Network, kill: int | None) -> Ended:
-    """Runs all parties over what the network does, and returns how the run ended."""
+    """Runs all parties over the network, and returns how the run ended."""
     fates = Fates(network)
     with contextlib.ExitStack() as stack:
         room = pathlib.Path(stack.enter_context(tempfile.TemporaryDirectory(prefix="bar-texts-")))
         layout = None if network.is_plain else layout_for(session)
         texts = write_texts(folder, session, layout, room) if layout else {}
         ways = ways_of(network, texts)
-        # a liar makes the tree of its key twice
+        # a liar computes the tree of its key twice
         begin = begin_of(session, program, trees=2 if network.liars else 1)
         victim = ways.get(kill, Way()).words(folder, program, kill, begin) if kill else None
         ports = {party: layout.own(party) for party in session.parties} if layout else None

@@ -1,8 +1,8 @@
-"""Runs a session that spans several hosts on one machine: each host is a network namespace, and all are joined by a bridge in another one.
+"""Runs a session that spans several hosts on one machine. Each host is a network namespace, and a bridge in another namespace joins them.
 
-Nothing of the machine's own network is changed. A host has its address on the one interface that it has beside its loopback, whatever
-network that is of, and reaches the others directly. The bridge may lose packets, of which a large datagram has several, and interfaces
-may delay what they send. The scripts in the hosts' folders are what is run.
+The machine's own network isn't changed. A host has its address on its only interface besides the loopback, and reaches the others directly,
+whatever networks their addresses belong to. The bridge may lose packets, of which a large datagram has several, and interfaces may delay
+what they send. What runs on a host are the scripts in its folder.
 """
 import contextlib
 import dataclasses
@@ -29,27 +29,27 @@ from gossip.sessions.session_folder import begin_of
 # the packages of Debian that have these programs
 PACKAGES = {"ip": "iproute2", "tc": "iproute2", "socat": "socat", "nft": "nftables"}
 
-# what a host's interface is called in its namespace, and the bridge in its own
+# the names of a host's interface and of the bridge, each in its own namespace
 INTERFACE, BRIDGE = "eth0", "hub"
 
-# how many seconds forwarding may take until it is there, and how many lie between two looks at it
+# how many seconds may pass until forwarding works, and the seconds between two looks at it
 READY, LOOK = 10, 0.1
 
-# by how many milliseconds a session begins later than one whose parties are started by one program
+# how many milliseconds later a session begins than one whose parties a single program starts
 AHEAD = 1000
 
 # the line of a party that has ended
 PARTY = re.compile(r"^party (\d+) status (\d+)$", re.MULTILINE)
 
-# the lowest and the highest number of bytes of a packet, and that of Ethernet
+# the least and the most bytes that a packet may be limited to, and the limit of Ethernet
 LEAST_MTU, MOST_MTU, MTU = 576, 65_535, 1500
 LONGEST_DELAY = 60_000
 
 
 @dataclasses.dataclass(frozen=True)
 class Wire:
-    """What is between the hosts of a trial: how many of a hundred packets are lost, by how many milliseconds each is delayed, and how many
-    bytes a packet has at most.
+    """The network between the hosts of a trial: the percentage of packets that are lost, by how many milliseconds each packet is delayed,
+    and how many bytes a packet has at most.
     """
 
     loss: float = 0
@@ -58,13 +58,13 @@ class Wire:
 
     @property
     def told(self) -> str:
-        """What it does, in words."""
+        """A description of what the network does."""
         parts = [f"loses {self.loss:g}% of packets"] if self.loss else []
         parts += [f"delays each by {self.delay} ms"] if self.delay else []
         return ", ".join([*parts, f"takes up to {self.mtu:,} bytes a packet"])
 
     def faults(self) -> Iterator[str]:
-        """What refuses it."""
+        """Yields what is wrong with these numbers."""
         if not 0 <= self.loss <= 100:
             yield f"--loss is {self.loss:g}: take 0 to 100 of a hundred packets"
         if not 0 <= self.delay <= LONGEST_DELAY:
@@ -77,20 +77,20 @@ class Wire:
 
 
 def programs_for(by: str, wire: Wire) -> list[str]:
-    """The programs that a trial needs."""
+    """Returns the programs that a trial needs."""
     wanted = {"ip": True, "socat": by == SOCAT, "nft": by == NFTABLES or wire.loss, "tc": wire.delay}
     return [name for name in wanted if wanted[name]]
 
 
 def faults_of_programs(names: Iterable[str]) -> Iterator[str]:
-    """The programs that are missing, with their packages."""
+    """Yields a fault for each program that is missing, with its package."""
     for name in names:
         if not shutil.which(name):
             yield f"there is no {name}: install the package {PACKAGES[name]}"
 
 
 def faults_of_system(by: str, wire: Wire) -> Iterator[str]:
-    """What refuses a trial on this machine, but for what only the trial shows."""
+    """Yields why a trial can't run on this machine, except for what only the trial shows."""
     yield from faults_of_programs(programs_for(by, wire))
     if os.geteuid() != 0:
         yield "network namespaces are made by root alone: run --try as root"
@@ -100,7 +100,7 @@ def faults_of_system(by: str, wire: Wire) -> Iterator[str]:
 
 
 def system(words: Sequence[Word], text: bytes | None = None) -> str:
-    """Runs a command of the system, with this text on its standard input, and returns what it prints, or fails by what it says."""
+    """Runs a command of the system with this text on its standard input, and returns what it prints. Raises `Failure` if it fails."""
     pipes = {"stdin": subprocess.PIPE} if text is not None else {}
     with running(words, stdout=subprocess.PIPE, stderr=subprocess.PIPE, **pipes) as process:
         printed, said = process.communicate(text) if text is not None else await_end(process)
@@ -110,7 +110,7 @@ def system(words: Sequence[Word], text: bytes | None = None) -> str:
 
 
 def inside(space: str, *words: object) -> list[str]:
-    """The words that run a command in a namespace."""
+    """Returns the command that runs another command in a namespace."""
     return ["ip", "netns", "exec", space, *map(str, words)]
 
 
@@ -129,7 +129,7 @@ class Spaces:
         return [self.hub, *self.of_host.values()]
 
     def remove(self) -> None:
-        """Removes the namespaces, as far as they are there, and all that is in them."""
+        """Removes those of the namespaces that exist, with all that is in them."""
         there = system(["ip", "netns", "list"]).split()
         for name in self.names:
             if name in there:
@@ -137,7 +137,7 @@ class Spaces:
 
 
 def commands_of_host(spaces: Spaces, hosts: list[Host], host: Host, wire: Wire) -> Iterator[list[str]]:
-    """The words of the commands that join a host to the bridge."""
+    """Yields the commands that join a host to the bridge."""
     space, port, mtu = spaces.of_host[host.name], f"h{hosts.index(host)}", str(wire.mtu)
     inside_it, inside_hub = ["ip", "-n", space], ["ip", "-n", spaces.hub]
     ends = ["ip", "link", "add", INTERFACE, "mtu", mtu, "netns", space, "type", "veth"]
@@ -153,7 +153,7 @@ def commands_of_host(spaces: Spaces, hosts: list[Host], host: Host, wire: Wire) 
 
 
 def commands_of(spaces: Spaces, hosts: list[Host], wire: Wire) -> Iterator[list[str]]:
-    """The words of the commands that lay out the namespaces, in their order."""
+    """Yields the commands that lay out the namespaces, in order."""
     yield from (["ip", "netns", "add", name] for name in spaces.names)
     yield ["ip", "-n", spaces.hub, "link", "add", BRIDGE, "type", "bridge"]
     yield ["ip", "-n", spaces.hub, "link", "set", BRIDGE, "up"]
@@ -162,7 +162,7 @@ def commands_of(spaces: Spaces, hosts: list[Host], wire: Wire) -> Iterator[list[
 
 @contextlib.contextmanager
 def laid_out(hosts: list[Host], wire: Wire) -> Iterator[Spaces]:
-    """Namespaces of these hosts, joined. They are removed behind the block. What the system doesn't allow is refused."""
+    """Makes namespaces of these hosts, joined, and removes them after the block. Raises `Refusal` if the system doesn't allow this."""
     spaces = Spaces(hosts)
     try:
         try:
@@ -195,18 +195,18 @@ LOSS_TABLE = """table bridge wire {{
 
 
 def loss_table(wire: Wire) -> str:
-    """The text of the table by which the bridge loses packets."""
+    """Returns the text of the nftables table with which the bridge loses packets."""
     share = f"numgen random mod 1000000 < {max(1, round(wire.loss * 10_000))} "
     return LOSS_TABLE.format(share=share if wire.loss < 100 else "")
 
 
 def counts_in(text: str) -> dict[str, int]:
-    """The packets that counters had, by name, in what `nft list counters` prints."""
+    """Returns the packets of each counter, by name, from what `nft list counters` prints."""
     return {name: int(packets) for name, packets in re.findall(r"counter (\w+) \{\s*packets (\d+)", text)}
 
 
 def loss_line(spaces: Spaces) -> str:
-    """How many packets the bridge lost, in words."""
+    """Returns a line on how many packets the bridge lost."""
     counts = counts_in(system(inside(spaces.hub, "nft", "list", "counters", "table", "bridge", "wire")))
     passed, lost = counts.get("passed", 0), counts.get("lost", 0)
     return f"{counted(passed + lost, 'packet')} went between the hosts: {lost:,} lost"
@@ -216,18 +216,18 @@ def loss_line(spaces: Spaces) -> str:
 
 
 def sockets_of(process: subprocess.Popen[bytes]) -> pathlib.Path:
-    """Where the sockets of the namespace of a process are listed."""
+    """Returns the path of the list of UDP sockets in the namespace of a process."""
     return pathlib.Path(f"/proc/{process.pid}/net/udp")
 
 
 def ports_in(text: str) -> Iterator[tuple[int, int]]:
-    """Of each socket in such a list its port, and how many datagrams it lost since its buffer was full."""
+    """Yields the port of each socket in such a list, and how many datagrams the socket lost because its buffer was full."""
     for fields in map(str.split, text.splitlines()[1:]):
         yield int(fields[1].rpartition(":")[2], 16), int(fields[-1])
 
 
 def await_sockets(process: subprocess.Popen[bytes], count: int, name: str) -> None:
-    """Waits until so many sockets are open in the namespace of a process."""
+    """Waits until `count` sockets are open in the namespace of a process."""
     until = time.monotonic() + READY
     while len([*ports_in(sockets_of(process).read_text("utf-8"))]) < count:
         if time.monotonic() > until:
@@ -236,7 +236,7 @@ def await_sockets(process: subprocess.Popen[bytes], count: int, name: str) -> No
 
 
 def start_forwarding(stack: contextlib.ExitStack, space: str, place: pathlib.Path, sockets: int) -> subprocess.Popen[bytes]:
-    """Has a host forward until the stack ends it, and returns its process once it forwards, by so many sockets."""
+    """Starts the forwarding of a host, which the stack ends. Returns its process once it forwards with this number of sockets."""
     pipes = {"stdout": subprocess.PIPE, "stderr": subprocess.STDOUT}
     process = stack.enter_context(running(inside(space, place / "forward.sh"), **pipes))
     line = next(lines_of(process), "it said nothing")
@@ -255,18 +255,18 @@ class SpanWatch(Watch):
         self.places = [sockets_of(process) for process in processes]
 
     def drops_now(self) -> dict[int, int]:
-        """How many datagrams to each party sockets have lost so far: its own, and those that forward to it."""
+        """Returns how many datagrams to each party were lost so far, by its own socket and by those that forward to it."""
         sockets = [socket for place in self.places for socket in ports_in(place.read_text("utf-8"))]
         return {party: sum(count for each, count in sockets if each == port) for party, port in self.ports.items()}
 
 
 def statuses_in(printed: str) -> dict[int, int]:
-    """The statuses of parties in what `start.sh` printed."""
+    """Returns the statuses of parties from what `start.sh` printed."""
     return {int(party): int(status) for party, status in PARTY.findall(printed)}
 
 
 def run_parties(span: Span, spaces: Spaces, forwarding: Iterable[subprocess.Popen[bytes]]) -> Ended:
-    """Runs the parties of all hosts, whose forwarding is done by these processes, and returns how the run ended."""
+    """Runs the parties of all hosts, for which these processes forward, and returns how the run ended."""
     begin, statuses = begin_of(span.session, span.program) + AHEAD, {}
     watch, pipes = SpanWatch(span.session, begin, forwarding), {"stdout": subprocess.PIPE, "stderr": subprocess.PIPE}
     with contextlib.ExitStack() as stack:
@@ -296,7 +296,7 @@ def run_hosts(span: Span, wire: Wire, spaces: Spaces) -> Ended:
 
 
 def run_trial(span: Span, wire: Wire) -> Ended:
-    """Runs a session over its hosts on this machine, and gathers all files of its parties in its folder again. Returns how it ended."""
+    """Runs a session over its hosts on this machine, and moves all files of its parties back to its folder. Returns how it ended."""
     near = dataclasses.replace(span, hosts=[dataclasses.replace(host, listen=host.address) for host in span.hosts])
     with laid_out(near.hosts, wire) as spaces:
         say(f"{len(near.hosts)} hosts in network namespaces, joined by a network that {wire.told}")

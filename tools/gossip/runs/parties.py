@@ -1,4 +1,4 @@
-"""A session whose parties a script starts itself, so that it may start one otherwise, and stop or end it in the middle of the run."""
+"""A session whose parties a script starts itself, so that it may start one in another way, or stop or end it in the middle of the run."""
 import contextlib
 import dataclasses
 import pathlib
@@ -14,9 +14,10 @@ from gossip.sessions.session_folder import Folder, party_words
 
 @dataclasses.dataclass(frozen=True)
 class Way:
-    """How a party is started: the words before its own, what is added to its environment, and where its results stand.
+    """How a party is started: a prefix of its command, its environment, and the path of its results.
 
-    A program may stand in place of the session's, with words of its own before the party's, and a session's text in place of the folder's.
+    If `environment` is empty, the party has that of the script. `program` replaces the session's program, with arguments of its own before
+    those of the party. `session` replaces the path of the session's text.
     """
 
     front: tuple[Word, ...] = ()
@@ -26,14 +27,14 @@ class Way:
     session: pathlib.Path | None = None
 
     def words(self, folder: Folder, program: pathlib.Path, party: int, begin: int) -> list[Word]:
-        """The words of a party that is started in this way."""
+        """Returns the command that starts a party in this way."""
         own = party_words(folder, program, party, begin, self.results, self.session)
         return [*self.front, *(self.program or own[:1]), *own[1:]]
 
 
 @dataclasses.dataclass(frozen=True)
 class Live:
-    """A session that runs: its numbers, the processes of its parties by number, and when it began, in milliseconds of Unix time."""
+    """A running session: its numbers, the processes of its parties by party, and when it begins, in milliseconds of Unix time."""
 
     session: Session
     processes: dict[int, subprocess.Popen[bytes]]
@@ -44,12 +45,12 @@ class Live:
         time.sleep(max(0, (self.begin + tick * self.session.tick_ms) / 1000 - time.time()))
 
     def send(self, number: signal.Signals, *parties: int) -> None:
-        """Sends a signal to these parties, as far as they run."""
+        """Sends a signal to those of these parties that still run."""
         for party in parties:
             self.processes[party].send_signal(number)
 
     def sleep(self, ticks: float, *parties: int) -> None:
-        """Stops these parties for so many ticks."""
+        """Stops these parties for this number of ticks, and then continues them."""
         self.send(signal.SIGSTOP, *parties)
         time.sleep(ticks * self.session.tick_ms / 1000)
         self.send(signal.SIGCONT, *parties)
@@ -62,7 +63,7 @@ class Live:
 
 @contextlib.contextmanager
 def started(folder: Folder, session: Session, program: pathlib.Path, begin: int, ways: Mapping[int, Way] | None = None) -> Iterator[Live]:
-    """Starts the parties of a session, each in its own way where it has one. Those that still run behind the block are killed."""
+    """Starts the parties of a session, each in its own way if it has one. Those that still run after the block are killed."""
     with contextlib.ExitStack() as stack:
         processes = {}
         for party in session.parties:

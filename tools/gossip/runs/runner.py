@@ -1,6 +1,6 @@
-"""Runs a session in its folder, audits and replays what was recorded and draws it, and says what failed and why.
+"""Runs a session in its folder, audits and replays the recordings, draws the run, and reports what failed and why.
 
-What can't be run is refused.
+A session that can't be run is refused.
 """
 import dataclasses
 import pathlib
@@ -27,7 +27,7 @@ from gossip.sessions.session_folder import Folder, begin_of, is_free, key_of, pa
 
 ANEW = "make a new session by tools/make-session"
 
-# with more peers than these bursts of datagrams may run over receive buffers of less than so many bytes, which the system gives by default
+# with more peers than MANY, bursts of datagrams may run over receive buffers of less than ENOUGH bytes; BUFFER has the default size
 MANY, ENOUGH = 50, 4 << 20
 BUFFER = pathlib.Path("/proc/sys/net/core/rmem_default")
 
@@ -36,7 +36,7 @@ BUFFER = pathlib.Path("/proc/sys/net/core/rmem_default")
 
 
 def session_of(folder: Folder) -> Session:
-    """The session of a folder; a folder without a session's text is refused."""
+    """Returns the session of a folder. Raises `Refusal` if the session's text is missing or malformed."""
     try:
         return Session.read(folder.session)
     except Malformed as fault:
@@ -46,7 +46,7 @@ def session_of(folder: Folder) -> Session:
 
 
 def faults_of_files(folder: Folder, session: Session) -> Iterator[str]:
-    """The files that are missing."""
+    """Yields a fault if files are missing."""
     files = [*map(folder.key, session.parties), folder.stream]
     missing = [file.name for file in files if not file.is_file()]
     if missing:
@@ -54,7 +54,7 @@ def faults_of_files(folder: Folder, session: Session) -> Iterator[str]:
 
 
 def faults_of_keys(folder: Folder, session: Session) -> Iterator[str]:
-    """What refuses the key files that are there. Spent ones are told together."""
+    """Yields what is wrong with the key files. Spent ones are reported together."""
     spent = []
     for party in session.parties:
         try:
@@ -70,14 +70,14 @@ def faults_of_keys(folder: Folder, session: Session) -> Iterator[str]:
 
 
 def faults_of_results(folder: Folder, session: Session) -> Iterator[str]:
-    """What was left by another run, and would be written over."""
+    """Yields a fault if files of another run are there, which would be overwritten."""
     left = [file.name for party in session.parties for file in (folder.recording(party), folder.played(party)) if file.exists()]
     if left:
         yield f"{folder.path} has {listed(left)} of another run: move these away, or {ANEW}"
 
 
 def faults_of_ports(session: Session) -> Iterator[str]:
-    """The ports that are taken."""
+    """Yields a fault if ports of the session are taken."""
     taken = [(party, session.port + party) for party in sorted(session.parties) if not is_free(session.port + party)]
     if taken:
         told = listed(f"{port} of party {party}" for party, port in taken)
@@ -85,7 +85,7 @@ def faults_of_ports(session: Session) -> Iterator[str]:
 
 
 def faults_of_folder(folder: Folder, session: Session) -> Iterator[str]:
-    """What refuses to run the session of a folder, live or simulated."""
+    """Yields why the session of a folder can be run neither live nor simulated."""
     missing = [*faults_of_files(folder, session)]
     yield from missing
     if not missing:
@@ -95,7 +95,7 @@ def faults_of_folder(folder: Folder, session: Session) -> Iterator[str]:
 
 
 def faults_of(folder: Folder, session: Session, kill: int | None) -> Iterator[str]:
-    """What refuses to run the session of a folder live, and to kill this peer in it, if one is named."""
+    """Yields why the session of a folder can't be run live, and why this peer can't be killed in it, if one is named."""
     yield from faults_of_folder(folder, session)
     if kill is not None and not 1 <= kill <= session.peers:
         yield f"--kill {kill} names no peer: take one of 1 to {session.peers}"
@@ -103,12 +103,12 @@ def faults_of(folder: Folder, session: Session, kill: int | None) -> Iterator[st
 
 
 def faults_of_picture(path: pathlib.Path | None) -> Iterable[str]:
-    """What refuses to draw a picture to this path, if one is named."""
+    """Returns why a picture can't be drawn to this path, if one is named."""
     return faults_of_place(path, b"<svg", "a picture of a run") if path else []
 
 
 def accept(folder: Folder, kill: int | None = None) -> Session:
-    """The session of a folder, which is refused by all that is wrong with it."""
+    """Returns the session of a folder. Raises `Refusal` if the session can't be run."""
     session = session_of(folder)
     refuse(faults_of(folder, session, kill))
     return session
@@ -118,7 +118,7 @@ def accept(folder: Folder, kill: int | None = None) -> Session:
 
 
 def buffer_lines(peers: int, file: pathlib.Path = BUFFER) -> Iterator[str]:
-    """A line that warns of small receive buffers, if a session of many peers has such."""
+    """Yields a warning if there are many peers and the system's receive buffers are small."""
     size = int(file.read_text("ascii")) if file.exists() else ENOUGH
     if peers > MANY and size < ENOUGH:
         larger = f"`sysctl -w {file.parent.parent.name}.{file.parent.name}.{file.name}={ENOUGH}` makes them larger"
@@ -126,7 +126,7 @@ def buffer_lines(peers: int, file: pathlib.Path = BUFFER) -> Iterator[str]:
 
 
 def line_of(folder: Folder, party: int, status: int) -> str:
-    """The line of a party that has ended: of a peer that played also how much."""
+    """Returns the line on a party that has ended. If it is a peer that played, it says how much."""
     played = folder.played(party)
     if party == 0 or not played.exists():
         return f"party {party} status {status}"
@@ -136,7 +136,7 @@ def line_of(folder: Folder, party: int, status: int) -> str:
 
 
 def run_parties(folder: Folder, program: pathlib.Path, begin: int) -> tuple[dict[int, int], int]:
-    """Runs all parties, each a process of its own, and prints a line for each as it ends: their statuses, and that of the command."""
+    """Runs all parties as processes, and prints a line when one ends. Returns their statuses, and that of the command."""
     statuses = {}
     with running(session_words(folder, program, begin), stdout=subprocess.PIPE) as process:
         for line in lines_of(process):
@@ -154,7 +154,7 @@ def run_parties(folder: Folder, program: pathlib.Path, begin: int) -> tuple[dict
 
 @dataclasses.dataclass(frozen=True)
 class Compared:
-    """What the replays of a run came to: the logs of peers, why others have none, and what differs, each by party."""
+    """The result of the replays of a run: the logs of peers, why others have none, and what differs, each with its party."""
 
     logs: Logs = dataclasses.field(default_factory=dict)
     refused: dict[int, str] = dataclasses.field(default_factory=dict)
@@ -162,7 +162,7 @@ class Compared:
 
 
 def compare(folder: Folder, session: Session, program: pathlib.Path, parties: list[int]) -> Compared:
-    """Replays these peers and prints how many agree with the run."""
+    """Replays these peers, and prints how many replays agree with the run."""
     logs, refused = replays_of(folder, program, parties)
     differ = [*differences(folder, session, logs)]
     sent, taken = between_peers(session, logs)
@@ -174,7 +174,7 @@ def compare(folder: Folder, session: Session, program: pathlib.Path, parties: li
 
 @dataclasses.dataclass(frozen=True)
 class Drawn:
-    """What came of comparing and drawing a run: what differs or fails, what is said of the page, and what the run was, if it's known."""
+    """The result of comparing and drawing a run: what differs or failed, what to print about the page, and the run's data, if known."""
 
     causes: list[str]
     told: str
@@ -182,7 +182,7 @@ class Drawn:
 
 
 def draw(folder: Folder, run: Run, picture: pathlib.Path | None) -> tuple[list[str], str]:
-    """Writes what a run was as data and as its page, and where a picture is named, that too. Returns what fails, and what is said of it."""
+    """Writes the data and the page of a run, and a picture if one is named. Returns what failed, and what to print about the page."""
     drawn = {folder.data: run.to_json, folder.page: lambda: timeline.page(run, decoded.video_in(folder))}
     drawn |= {picture: lambda: session_picture.picture(run)} if picture else {}
     for path, draw_in in drawn.items():
@@ -196,7 +196,7 @@ def draw(folder: Folder, run: Run, picture: pathlib.Path | None) -> tuple[list[s
 
 
 def outside_before(folder: Folder) -> int | None:
-    """How many datagrams from outside an earlier page of this run tells of."""
+    """Returns how many datagrams from outside the earlier data of this run reports, or None."""
     try:
         return Run.of_json(folder.data.read_text("utf-8")).outside
     except (OSError, ValueError, Malformed):
@@ -206,9 +206,9 @@ def outside_before(folder: Folder) -> int | None:
 def compare_and_draw(
     folder: Folder, session: Session, program: pathlib.Path, audit: Audit, picture: pathlib.Path | None, ran: Ended | None = None
 ) -> Drawn:
-    """Replays each peer that left a recording and didn't lie, gathers what the run was and draws it, with its audit.
+    """Replays each peer that left a recording and didn't lie, gathers the data of the run, and draws it with its audit.
 
-    `ran` is how it ended, where it has just been run. Prints what came of liars.
+    If the session has just been run, `ran` is how it ended. Prints what happened to liars.
     """
     liars = lies.liars_in(folder)
     parties = [party for party in session.parties[:-1] if folder.recording(party).exists() and party not in liars]
@@ -219,7 +219,7 @@ def compare_and_draw(
         statuses = ran.statuses if ran else {}
         known = Known(audit, refused=refused, differ=compared.differ, statuses=statuses, liars=liars, outside=outside)
         run = gathered(folder, session, program, compared.logs, known) if compared.logs else None
-        # a run has all that is drawn, and logs take far more room
+        # the run has all that is drawn, and logs need far more memory
         compared.logs.clear()
     except OSError as error:
         return Drawn([f"the recordings can't be replayed: {told_of(error)}"], "there is no page")
@@ -235,9 +235,9 @@ def compare_and_draw(
 
 
 def lost_lines(drops: dict[int, int], floods: Container[int] = (), strange: object = False) -> Iterator[str]:
-    """A line for each party whose receive buffer ran over, but for those that were flooded.
+    """Yields a line for each party whose receive buffer ran over, except for those that were flooded.
 
-    A longer tick helps a machine that is too slow for a session. It is advised only where no flood was seen, nor anything that is strange.
+    A longer tick helps if the machine is too slow for the session. It is advised only if neither a flood nor anything strange was seen.
     """
     advice = "" if floods or strange else "; a longer tick (--tick-ms) helps"
     for party, count in sorted(drops.items()):
@@ -247,7 +247,7 @@ def lost_lines(drops: dict[int, int], floods: Container[int] = (), strange: obje
 
 
 def outside_lines(folder: Folder, session: Session, ran: Ended, run: Run | None) -> Iterator[str]:
-    """The lines on floods, on what was lost and on what came from outside a session."""
+    """Yields the lines on floods, on what was lost, and on what came from outside the session."""
     strange = strange_of(run) if run and not ran.fates else {}
     outside = run.outside if run else None
     floods = floods_of(folder, session, ran.drops, strange)
@@ -278,7 +278,7 @@ def run_session(
 
 
 def run_undisturbed(folder: Folder, session: Session, program: pathlib.Path, kill: int | None) -> Ended:
-    """Runs all parties by the program's own command."""
+    """Runs all parties with the program's own command `session`."""
     begin = begin_of(session, program)
     watch = Watch(session, begin, party_words(folder, program, kill, begin) if kill else None)
     with watched(watch):

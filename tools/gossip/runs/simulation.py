@@ -1,8 +1,9 @@
-"""Simulates a session: its parties are the program's own commands, each a process over a pipe, and this has the time and the network.
+"""Simulates a session: its parties are processes that run the program's own commands over pipes, in a simulated time and network.
 
-Each party asks for its next input over one pipe and tells on it what it sends, and takes its inputs from another. Time goes by the inputs
-that are given, in milliseconds, and nothing waits for a clock. Of what is due in one millisecond all parties take their part at once, on
-all processors, and what they send is taken in the order of their numbers. So the same session, network and seed give the same run.
+A party reads its inputs from one pipe. To another pipe it writes requests for its next input, and what it sends. Time is counted in
+milliseconds and advances with the inputs; nothing waits for a clock. All inputs of one millisecond are given to the parties at once, which
+handle them in parallel. What they send is then processed in the order of the parties' numbers. So the same session, network and seed give
+the same run.
 """
 import collections
 import contextlib
@@ -25,10 +26,10 @@ from gossip.runs.disturbed import Ended, status_of_all
 from gossip.scripts.console import Count
 from gossip.sessions.session_folder import Folder, party_words
 
-# what begins an entry that a party tells: it asks for its next input, or it sends a datagram. What else it prints are its last lines
+# the first byte of what a party writes: a request for its next input, or a datagram that it sends. Any other byte begins its last lines
 ASKED, SENT = b"\x01\x02"
 
-# an input: a tick, or a datagram behind its length
+# a tick as an input
 TICK = b"\x01"
 
 # how many bytes are read at once
@@ -36,7 +37,7 @@ CHUNK = 1 << 18
 
 
 def datagram_entry(datagram: bytes) -> bytes:
-    """A datagram as an input."""
+    """Returns a datagram as an input."""
     return b"\x02" + len(datagram).to_bytes(2, "big") + datagram
 
 
@@ -49,12 +50,12 @@ class Posted(typing.NamedTuple):
 
 
 class Party:
-    """A party that runs: what it has still to be given, and what it told."""
+    """A running party: the inputs that aren't written to its pipe yet, and what it wrote."""
 
     def __init__(self, number: int, process: subprocess.Popen[bytes]) -> None:
         self.number, self.process = number, process
         self.to_give, self.told, self.printed = bytearray(), bytearray(), b""
-        # how often it has still to ask for an input before it waits, and what it sent since that was looked at
+        # how many requests for an input it still has to make before it waits, what it sent since the last look, and whether it has ended
         self.owes, self.sent, self.has_ended = 1, [], False
         for stream in (process.stdin, process.stdout):
             os.set_blocking(stream.fileno(), False)
@@ -64,13 +65,13 @@ class Party:
         return self.owes > 0 and not self.has_ended
 
     def give(self, entries: Sequence[bytes]) -> None:
-        """Gives it these inputs, as far as its pipe takes them."""
+        """Gives it these inputs, as far as its pipe has room for them."""
         self.to_give += b"".join(entries)
         self.owes += len(entries)
         self.flush()
 
     def flush(self) -> None:
-        """Writes what it has still to be given, as far as its pipe takes it. One that has ended takes nothing."""
+        """Writes the remaining inputs, as far as its pipe has room for them. If it has ended, discards them."""
         try:
             del self.to_give[: os.write(self.process.stdin.fileno(), self.to_give)]
         except BlockingIOError:
@@ -79,7 +80,7 @@ class Party:
             self.to_give.clear()
 
     def read(self) -> None:
-        """Takes what it told, as far as that is there."""
+        """Reads what it has written, if there is something to read."""
         try:
             data = os.read(self.process.stdout.fileno(), CHUNK)
         except BlockingIOError:
@@ -89,7 +90,7 @@ class Party:
         del self.told[: self.taken()]
 
     def taken(self) -> int:
-        """Takes all whole entries of what it told, and says how many bytes they have."""
+        """Handles all complete entries of what it wrote, and returns how many bytes they have."""
         told, at = self.told, 0
         while at < len(told):
             if told[at] == ASKED:
@@ -106,13 +107,13 @@ class Party:
         return at
 
     def take_sent(self) -> list[tuple[int, bytes]]:
-        """What it sent since the last call, each datagram with its receiver."""
+        """Returns what it sent since the last call, each datagram with its receiver."""
         sent, self.sent = self.sent, []
         return sent
 
 
 class Parties:
-    """All parties of a session, each a process over its pipes."""
+    """All parties of a session, each a process with its pipes."""
 
     def __init__(self, stack: contextlib.ExitStack, words: Mapping[int, Sequence[Word]]) -> None:
         pipes = {"stdin": subprocess.PIPE, "stdout": subprocess.PIPE, "stderr": subprocess.PIPE}
@@ -125,14 +126,14 @@ class Parties:
         self.full = set()
 
     def give(self, inputs: Mapping[int, Sequence[bytes]]) -> list[Posted]:
-        """Gives parties their inputs, and waits until each of them has taken its own. Returns what they sent, by the order of parties."""
+        """Gives parties their inputs, and waits until each of them has handled its own. Returns what they sent, in the order of parties."""
         for number, entries in inputs.items():
             self.by_number[number].give(entries)
         self.await_all([self.by_number[number] for number in inputs])
         return [Posted(number, *sent) for number in sorted(inputs) for sent in self.by_number[number].take_sent()]
 
     def await_all(self, parties: Iterable[Party]) -> None:
-        """Waits until each of these parties has taken its inputs or ended."""
+        """Waits until each of these parties has handled its inputs or ended."""
         busy = {party for party in parties if party.is_busy}
         while busy:
             self.heed({party for party in busy if party.to_give})
@@ -141,7 +142,7 @@ class Parties:
         self.heed(set())
 
     def heed(self, full: set[Party]) -> None:
-        """Has these parties given the rest of their inputs once their pipes take more."""
+        """Watches the pipes of these parties, and of no others, for room for the rest of their inputs."""
         for party in full - self.full:
             self.selector.register(party.process.stdin, selectors.EVENT_WRITE, party)
         for party in self.full - full:
@@ -149,7 +150,7 @@ class Parties:
         self.full = full
 
     def step(self) -> None:
-        """Waits for what parties tell and for full pipes that take more, but not for long."""
+        """Waits a short time for output of parties and for room in full pipes, and handles both."""
         for key, event in self.selector.select(WAIT):
             if event & selectors.EVENT_WRITE:
                 key.data.flush()
@@ -159,7 +160,7 @@ class Parties:
                 self.selector.unregister(key.fileobj)
 
     def statuses(self) -> dict[int, int]:
-        """Waits for the ends of all parties, and returns their statuses."""
+        """Waits until all parties have ended, and returns their statuses."""
         for party in self.by_number.values():
             party.process.stdin.close()
         while any(not party.has_ended for party in self.by_number.values()):
@@ -170,17 +171,17 @@ class Parties:
 
 
 class Simulation:
-    """The time of a session, and what is on its way between its parties."""
+    """The simulated time of a session, and the datagrams in transit between its parties."""
 
     def __init__(self, session: Session, parties: Parties, fates: Fates) -> None:
         self.session, self.parties, self.fates = session, parties, fates
         self.forger = Forger(session) if fates.network.forges else None
-        # what is on its way, the next first, in milliseconds, and the numbers of what is sent
+        # a heap of the datagrams in transit, with the next one first, by time in milliseconds, and the numbers that datagrams are given
         self.on_way: list[OnWay] = []
         self.numbers = itertools.count()
 
     def post(self, now: int, sent: Iterable[Posted]) -> None:
-        """Puts on its way what parties sent at this time, as often and as late as its fate says."""
+        """Puts the datagrams that parties sent at this time in transit, as often and as late as their fates say."""
         for sender, receiver, datagram in sent:
             for delay in self.fates.delays(sender, receiver):
                 heapq.heappush(self.on_way, OnWay(now + delay, next(self.numbers), receiver, datagram))
@@ -188,12 +189,12 @@ class Simulation:
                 self.forge(now, self.forger.hear(datagram))
 
     def forge(self, now: int, sent: Iterable[tuple[int, bytes]]) -> None:
-        """Puts on its way what a forger sends."""
+        """Puts the datagrams that a forger sent in transit, each once and without delay."""
         for receiver, datagram in sent:
             heapq.heappush(self.on_way, OnWay(now, next(self.numbers), receiver, datagram))
 
     def due(self) -> tuple[int, dict[int, list[bytes]]]:
-        """What is due first, all of one millisecond: the inputs of each receiver, in the order in which they were sent."""
+        """Removes all that is due first, and returns its time and the inputs of each receiver, in the order in which they were sent."""
         now, inputs = self.on_way[0].due, collections.defaultdict(list)
         while self.on_way and self.on_way[0].due == now:
             first = heapq.heappop(self.on_way)
@@ -203,14 +204,14 @@ class Simulation:
         return now, inputs
 
     def tick(self, now: int) -> None:
-        """All parties tick, and take what comes before the next tick."""
+        """Gives all parties a tick, and then the datagrams that are due before the next tick."""
         self.post(now, self.parties.give(dict.fromkeys(self.session.parties, [TICK])))
         while self.on_way and self.on_way[0].due < now + self.session.tick_ms:
             at, inputs = self.due()
             self.post(at, self.parties.give(inputs))
 
     def run(self, told: str | None) -> None:
-        """Runs the session to its end. How far it is, is told in these words, or not."""
+        """Runs the session to its end. If `told` isn't None, lines that begin with it report the progress."""
         count = told and Count(told, self.session.ends)
         for tick in range(self.session.ticks):
             if self.forger and tick % SLOTS == 0:
@@ -221,7 +222,7 @@ class Simulation:
 
 
 def words_by_party(folder: Folder, session: Session, program: pathlib.Path, liars: dict[int, str]) -> dict[int, list[Word]]:
-    """The words of each party, which are those of a live session over a pipe."""
+    """Returns the command of each party: that of a live session, but over a pipe."""
     return {
         party: [program, "pipe", liars.get(party, "none"), *party_words(folder, program, party, 0)[1:]]
         for party in session.parties
@@ -229,9 +230,9 @@ def words_by_party(folder: Folder, session: Session, program: pathlib.Path, liar
 
 
 def simulate(folder: Folder, session: Session, network: Network, told: str | None = "rounds") -> Ended:
-    """Simulates a session in its folder, which has then the files of a run, and returns how it ended.
+    """Simulates a session in its folder, which has the files of a run afterwards, and returns how it ended.
 
-    How far it is, is told in these words, or not.
+    If `told` isn't None, lines that begin with it report the progress.
     """
     fates, program = Fates(network), built(PARTY)
     take_files(3 * len(session.parties) + OTHER_FILES)

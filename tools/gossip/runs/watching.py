@@ -1,4 +1,4 @@
-"""What is done beside a session while it runs: its progress is told, what buffers lose is noted, a peer may be killed or flooded."""
+"""What is done while a session runs: its progress is printed, what buffers lose is noted, and a peer may be killed or flooded."""
 import concurrent.futures
 import contextlib
 import math
@@ -18,27 +18,27 @@ from gossip.programs.bar import Word
 from gossip.scripts.console import counted, held, progress
 from gossip.sessions.session_folder import LOOPBACK
 
-# how many seconds lie between two looks, between two lines on the rounds at least, and between two lines on the wait for the start
+# the seconds between two looks, and at least between two lines on the rounds and between two lines before the begin
 LOOK, LINE, WAIT = 0.25, 1, 10
 
-# how many seconds a flood lasts, and how many lie between two looks at it
+# how many seconds a flood lasts, and the seconds between two looks at it
 FLOOD, FLOOD_LOOK = 1, 0.002
 
 SOCKETS = pathlib.Path("/proc/net/udp")
-# what the system counts, with the datagrams that programs have taken
+# the counters of the system, among them that of the datagrams that programs have received
 COUNTS = pathlib.Path("/proc/net/snmp")
-# the loopback address as that file has it
+# the loopback address in the form that /proc/net/udp has
 ADDRESS = f"{int.from_bytes(socket.inet_aton(LOOPBACK), sys.byteorder):08X}"
 
 
 class Clock:
-    """Tells how far a session is by the time, which is given in seconds."""
+    """Makes the lines on the progress of a session, from the time in seconds."""
 
     def __init__(self, session: Session, begin: int) -> None:
         self.session, self.begin, self.told, self.told_at = session, begin / 1000, None, -math.inf
 
     def line(self, now: float) -> str | None:
-        """The line that is due, or None. The first line on the rounds comes at once."""
+        """Returns the line that is due, or None. The first line on the rounds is due immediately."""
         number = math.floor((now - self.begin) * 1000 / (SLOTS * self.session.tick_ms)) + 1
         if now < self.begin:
             line, pause = f"the session begins in {math.ceil(self.begin - now)} s", WAIT
@@ -51,25 +51,25 @@ class Clock:
 
 
 def ports_of(session: Session) -> dict[int, int]:
-    """The ports that the parties of a session take."""
+    """Returns the ports that the parties of a session bind."""
     return {party: session.port + party for party in session.parties}
 
 
 def drops_of(text: str, ports: Mapping[int, int]) -> dict[int, int]:
-    """How many datagrams each party's socket has lost since its receive buffer was full, by the text of /proc/net/udp."""
+    """Returns how many datagrams each party's socket has lost because its receive buffer was full, from the text of /proc/net/udp."""
     sockets = [line.split() for line in text.splitlines()[1:]]
     parties = {f"{ADDRESS}:{port:04X}": party for party, port in ports.items()}
     return {parties[fields[1]]: int(fields[-1]) for fields in sockets if len(fields) > 2 and fields[1] in parties}
 
 
 def taken_of(text: str) -> int:
-    """How many datagrams all programs of this machine have taken over UDP, by the text of /proc/net/snmp."""
+    """Returns how many UDP datagrams all programs of this machine have received, from the text of /proc/net/snmp."""
     names, numbers = (line.split() for line in text.splitlines() if line.startswith("Udp: "))
     return int(dict(zip(names, numbers))["InDatagrams"])
 
 
 def count_taken() -> int | None:
-    """How many they have taken so far, or None where the system doesn't tell."""
+    """Returns how many UDP datagrams all programs have received so far, or None if the system doesn't report it."""
     try:
         return taken_of(COUNTS.read_text("utf-8"))
     except (OSError, ValueError, KeyError):
@@ -77,7 +77,7 @@ def count_taken() -> int | None:
 
 
 def find_process(words: Sequence[Word]) -> int | None:
-    """The number of the process that was started with these words, or None. Its own name may be another."""
+    """Returns the id of the process that was started with these arguments, or None. The first word, its program, isn't compared."""
     wanted = "".join(f"{word}\0" for word in words[1:]).encode()
     for file in pathlib.Path("/proc").glob("[0-9]*/cmdline"):
         with contextlib.suppress(OSError):
@@ -87,17 +87,17 @@ def find_process(words: Sequence[Word]) -> int | None:
 
 
 class Looking(typing.Protocol):
-    """What looks on while something else goes on."""
+    """An observer that looks while something else is done."""
 
     def looks(self, ended: threading.Event) -> None:
-        """Looks until the end."""
+        """Looks until `ended` is set."""
 
 
 class Watch:
-    """Looks at a session that runs. `victim` has the words of the party that is killed in the middle, if there is one.
+    """Looks at a session while it runs. `victim` is the command of the party that is killed in the middle, if there is one.
 
-    The parties take the session's ports, or these. `taken` is how many datagrams all programs of this machine took meanwhile, if that's
-    known.
+    The parties bind `ports`, or the session's ports if none are given. `taken` is how many datagrams all programs of this machine received
+    meanwhile, if this is known.
     """
 
     def __init__(self, session: Session, begin: int, victim: Sequence[Word] | None = None, ports: dict[int, int] | None = None) -> None:
@@ -107,7 +107,7 @@ class Watch:
         self.before, self.taken = count_taken(), None
 
     def look(self, now: float) -> None:
-        """One look at this time, in seconds."""
+        """Looks once, at this time in seconds."""
         line = self.clock.line(now)
         if line:
             progress(line)
@@ -117,11 +117,11 @@ class Watch:
             self.kill()
 
     def drops_now(self) -> dict[int, int]:
-        """How many datagrams each party's socket has lost so far."""
+        """Returns how many datagrams each party's socket has lost so far."""
         return drops_of(SOCKETS.read_text("utf-8"), self.ports)
 
     def kill(self) -> None:
-        """Kills the victim, if it runs; else the next look tries it again."""
+        """Kills the victim if it runs. If it doesn't, the next look tries again."""
         process = find_process(self.victim)
         if process is not None:
             with contextlib.suppress(ProcessLookupError):
@@ -129,7 +129,7 @@ class Watch:
             self.victim = None
 
     def looks(self, ended: threading.Event) -> None:
-        """Looks until the end, and counts then what was taken."""
+        """Looks until `ended` is set, and then counts what was received."""
         pause = 0
         while not ended.wait(pause):
             now = time.time()
@@ -146,7 +146,7 @@ class Growing:
         self.path, self.at = path, RECORDING_HEAD
 
     def more(self) -> list[bytes | None]:
-        """The inputs that were written whole since the last call, each a datagram or None for a tick."""
+        """Returns the inputs that were completed since the last call, each a datagram, or None for a tick."""
         try:
             with open(self.path, "rb") as file:
                 file.seek(self.at)
@@ -158,9 +158,9 @@ class Growing:
 
 
 class Flood:
-    """Sends a peer the first REQUEST that it takes so many times more, within a second, as long as it answers each again.
+    """Sends a peer the first REQUEST that it receives `count` times more, within a second, while the peer answers repeats.
 
-    It notes how many of these the peer takes, and how late its ticks are at the most, by its recording as it grows.
+    From the peer's growing recording it notes how many of these the peer receives, and how late its ticks are at most.
     """
 
     def __init__(self, session: Session, begin: int, party: int, recording: pathlib.Path, count: int) -> None:
@@ -169,7 +169,7 @@ class Flood:
         self.sent = self.taken = self.ticks = self.late = 0
 
     def look(self, now: float, sender: socket.socket) -> None:
-        """One look at this time, in seconds."""
+        """Looks once, at this time in seconds, and sends the copies that are due."""
         self.read(now)
         if self.ticks < self.session.ticks:
             self.late = max(self.late, now - (self.begin + self.ticks * self.session.tick_ms) / 1000)
@@ -180,7 +180,7 @@ class Flood:
             self.sent = max(due, self.sent)
 
     def read(self, now: float) -> None:
-        """Notes what the peer took up to this time."""
+        """Notes what the peer has received up to this time."""
         for entry in self.recording.more():
             if entry is None:
                 self.ticks += 1
@@ -194,7 +194,7 @@ class Flood:
         return isinstance(message, Message) and message.kind == REQUEST and message.receiver == self.party
 
     def looks(self, ended: threading.Event) -> None:
-        """Looks until the end, and once behind it."""
+        """Looks until `ended` is set, and reads the recording once more afterwards."""
         with socket.socket(socket.AF_INET, socket.SOCK_DGRAM) as sender:
             while not ended.wait(FLOOD_LOOK):
                 self.look(time.time(), sender)
@@ -202,11 +202,11 @@ class Flood:
 
     @property
     def kept(self) -> bool:
-        """Whether the peer took all ticks, none of them later than the next one was due."""
+        """Whether the peer took all ticks, and took each before the next one was due."""
         return self.ticks == self.session.ticks and self.late * 1000 < self.session.tick_ms
 
     def line(self) -> str:
-        """What came of it, in words."""
+        """Returns a line on the result."""
         if not self.sent:
             return f"peer {self.party} took no REQUEST, so none was sent again"
         rate = self.taken / (self.last - self.since) if self.taken else 0
@@ -217,7 +217,7 @@ class Flood:
 
 @contextlib.contextmanager
 def watched(watch: Looking) -> Iterator[None]:
-    """Looks on, in a thread, while the block is carried out."""
+    """Lets an observer look, in a thread of its own, while the block runs."""
     ended = threading.Event()
     with concurrent.futures.ThreadPoolExecutor(1) as pool:
         try:

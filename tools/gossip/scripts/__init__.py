@@ -1,1 +1,1 @@
-"""The outcome of a script, its help and its lines, and the files of numbers that it measured."""
+"""What all scripts share: outcomes, help, printed lines, and files of measured numbers."""

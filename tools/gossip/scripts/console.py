@@ -1,8 +1,8 @@
-"""What the mains of all scripts share: their words, the lines that tell how far they are, their outcome and their exit status.
+"""What the mains of all scripts share: their arguments, lines of progress, outcomes and exit statuses.
 
-A script's last line is its outcome: `OK: ` and what was done, with status 0; `FAILED: ` and the causes, with status 1; or, on standard
-error, `REFUSED: ` and the reason with its remedy, with status 2, where nothing could be run. Progress goes to standard error. Neither a
-failure nor Ctrl-C ends with a traceback.
+A script's last line is its outcome. If the script succeeds, it is `OK: ` and what was done, with status 0. If it fails, it is `FAILED: `
+and the causes, with status 1. If nothing could be run, it is `REFUSED: ` and the reason with its remedy, on standard error, by default with
+status 2. Progress is printed on standard error. Neither a failure nor Ctrl-C ends with a traceback.
 """
 import argparse
 import contextlib
@@ -24,16 +24,16 @@ from typing import NoReturn
 SIGNALS = (signal.SIGINT, signal.SIGTERM, signal.SIGHUP)
 FAILED, REFUSED = 1, 2
 
-# after how many seconds without a line one tells that something goes on, and from how many on it is told how long something takes
+# after how many seconds without a line progress is printed again, and after how many seconds the time is printed too
 SILENCE, LONG = 10, 5
 
-# how wide a help is at most, and what stands before the text of an indented line: spaces, or a name between spaces
+# the greatest width of a help text, and what precedes the text of an indented line: spaces, or a name between spaces
 COLUMNS = 80
 NAMED = re.compile(r"(?: +(?:\S+(?: \S+)*  +)?)?")
 
 
 class Refusal(Exception):
-    """Nothing could be run, for these reasons, each of which is told with its remedy."""
+    """Nothing can be run. The arguments are the reasons, each with its remedy."""
 
     def __init__(self, *reasons: str, status: int = REFUSED) -> None:
         super().__init__(*reasons)
@@ -41,33 +41,34 @@ class Refusal(Exception):
 
 
 class Failure(Exception):
-    """What a script was to do failed by this cause."""
+    """The script failed. The argument is the cause."""
 
 
 class Stopped(BaseException):
-    """A signal asked the script to stop. What handles failures lets it pass."""
+    """A signal stopped the script. Handlers of `Exception` don't catch it."""
 
 
 # ---- lines
 
 
 def say(line: object) -> None:
-    """A line of what the script tells, on standard output."""
+    """Prints a line on standard output."""
     print(line, flush=True)
 
 
 def progress(line: str) -> None:
-    """A line that tells how far the script is, on standard error."""
+    """Prints a line of progress on standard error, if that can be written."""
     if sys.stderr is not None:
         with contextlib.suppress(OSError):
             print(line, file=sys.stderr, flush=True)
 
 
 class Count:
-    """Tells how many of a number of things are done: at most a line a second, and always the last one.
+    """Prints how many of a number of things are done: at most one line a second, and always the last one.
 
-    Where nothing is done for a while a line tells that it goes on. What takes longer is told with the seconds that are likely to be left:
-    by what is done, of which so many are done at once; or by how long all is likely to take, where that is known before.
+    If nothing is done for a while, a line is printed all the same. After the first seconds, lines have an estimate of the time left. It is
+    computed from the things done so far, `at_once` at a time. While none is done, it is computed from `seconds`, the time that all are
+    expected to take.
     """
 
     def __init__(self, told: str, total: int, at_once: int = 1, seconds: float | None = None) -> None:
@@ -76,19 +77,19 @@ class Count:
         self.told_at = self.began
 
     def tell(self, done: int) -> None:
-        """Tells that so many are done."""
+        """Notes that `done` things are done, and prints the line if it is due."""
         self.done, now = done, time.monotonic()
         if done == self.total or now >= self.next:
             self.say(now)
             self.next = now + 1
 
     def tell_late(self, done: int) -> None:
-        """Tells that so many are done where all takes long."""
+        """Calls `tell` if the first `LONG` seconds are over."""
         if time.monotonic() >= self.began + LONG:
             self.tell(done)
 
     def wait(self) -> None:
-        """Tells that it goes on, where nothing was told for a while."""
+        """Prints the line again if none was printed for a while."""
         now = time.monotonic()
         if now >= self.told_at + SILENCE:
             self.say(now)
@@ -98,7 +99,7 @@ class Count:
         progress(f"{self.told}: {self.done or 'none'} of {self.total}{self.left(now - self.began)}")
 
     def left(self, seconds: float) -> str:
-        """How long it's likely to take still, after so many seconds, in words; nothing of what is short."""
+        """Returns the time taken and the estimated time left, in words. The text is empty if all is done or little time has passed."""
         if self.done == self.total or seconds < LONG:
             return ""
         rounds, all_rounds = (-(-count // self.at_once) for count in (self.done, self.total))
@@ -108,20 +109,20 @@ class Count:
 
 
 def counted(count: int, word: str) -> str:
-    """So many of them, in words."""
+    """Returns a count with its noun, in the plural unless the count is 1."""
     return f"{count:,} {word}{'' if count == 1 else 's'}"
 
 
 def listed(words: Iterable[object], joined: str = "and") -> str:
-    """Words one behind the other, with `and` or another word before the last."""
+    """Returns words separated by commas, with `and` or another word before the last."""
     *firsts, last = map(str, words)
     return f"{', '.join(firsts)} {joined} {last}" if firsts else last
 
 
 def compared(values: Mapping[str, float], form: str, unit: str, noise: float = 0) -> str:
-    """What was measured, by names, in a format and a unit; of one alone its value, else the ratio of the second to the first too.
+    """Returns measured values as text, in a format and a unit: one alone, or two with their names and the ratio of the second to the first.
 
-    There is no ratio where one of them isn't above the noise.
+    There is no ratio if one of the values isn't above the noise.
     """
     told = {name: f"{value:{form}} {unit}" for name, value in values.items()}
     if len(told) == 1:
@@ -132,20 +133,20 @@ def compared(values: Mapping[str, float], form: str, unit: str, noise: float = 0
 
 
 def refuse(faults: Iterable[str]) -> None:
-    """Refuses to go on where there are faults."""
+    """Raises a `Refusal` if there are faults."""
     reasons = [*faults]
     if reasons:
         raise Refusal(*reasons)
 
 
 def faults_of_counts(words: argparse.Namespace, *names: str) -> Iterator[str]:
-    """What refuses these words of a script, which count something, where they are given."""
+    """Yields a fault for each of these arguments that is given and is less than 1."""
     values = ((name, getattr(words, name)) for name in names)
     return (f"--{name.replace('_', '-')} is {value}: take 1 or more" for name, value in values if value is not None and value < 1)
 
 
 def faults_of_place(path: pathlib.Path, front: bytes, what: str) -> Iterator[str]:
-    """What refuses to write this, which begins with these bytes, to a path: another file is there."""
+    """Yields a fault if there is a file at a path that isn't empty and doesn't begin with `front`, so that it may not be overwritten."""
     if path.is_file():
         with open(path, "rb") as file:
             begins = file.read(len(front))
@@ -154,7 +155,7 @@ def faults_of_place(path: pathlib.Path, front: bytes, what: str) -> Iterator[str
 
 
 def require(paths: Iterable[pathlib.Path], remedy: str) -> None:
-    """Refuses to go on where some of these files and folders are missing."""
+    """Raises a `Refusal` if some of these files and folders are missing."""
     missing = [str(path) for path in paths if not path.exists()]
     if missing:
         raise Refusal(f"{listed(missing)} {'is' if len(missing) == 1 else 'are'} missing: {remedy}")
@@ -165,9 +166,9 @@ def require(paths: Iterable[pathlib.Path], remedy: str) -> None:
 
 @dataclasses.dataclass(frozen=True)
 class Outcome:
-    """How a script ended: its exit status and its last lines, of which the last is the outcome.
+    """How a script ended: its exit status and its last lines, the very last of which is the outcome.
 
-    They go to standard error of a refusal, and where what stands on standard output is for another program.
+    The lines are printed on standard error if nothing could be run, or if standard output is for another program.
     """
 
     status: int
@@ -175,34 +176,34 @@ class Outcome:
     on_error: bool = False
 
 
-# a script's main: it takes the words of the script
+# a script's main, which is called with the parsed arguments
 Main = Callable[[argparse.Namespace], Outcome]
 
 
 def well(done: str) -> Outcome:
-    """The outcome of a script that did this."""
+    """Returns the outcome of a script that did this."""
     return Outcome(0, (f"OK: {done}",))
 
 
 def well_aside(done: str) -> Outcome:
-    """The same, of one whose standard output is for another program."""
+    """Returns the same for a script whose standard output is for another program."""
     return Outcome(0, (f"OK: {done}",), True)
 
 
 def failed(*causes: str) -> Outcome:
-    """The outcome of a script that failed by these causes."""
+    """Returns the outcome of a script that failed for these causes."""
     return Outcome(FAILED, (f"FAILED: {'; '.join(causes)}",))
 
 
 def refused(refusal: Refusal) -> Outcome:
-    """The outcome of a script that could run nothing."""
+    """Returns the outcome of a script that could run nothing."""
     if len(refusal.args) == 1:
         return Outcome(refusal.status, (f"REFUSED: {refusal}",), True)
     return Outcome(refusal.status, (*refusal.args, f"REFUSED: nothing was done, for the {len(refusal.args)} reasons above"), True)
 
 
 def told_of(error: Exception) -> str:
-    """What a failure says, in one line: of the system's its reason and its file, of any other also the place that it comes from."""
+    """Describes an exception in one line: an `OSError` by its reason and file, any other by its type, place in the code and text."""
     if isinstance(error, OSError):
         return f"{error.strerror or error}{f': {error.filename}' if error.filename else ''}"
     place = traceback.extract_tb(error.__traceback__)[-1]
@@ -210,7 +211,7 @@ def told_of(error: Exception) -> str:
 
 
 def outcome_of(main: Main, words: argparse.Namespace) -> Outcome:
-    """Calls a main, and returns its outcome, whatever comes."""
+    """Calls a main and returns its outcome, even if the main raises an exception."""
     try:
         heed_signals()
         return main(words)
@@ -231,7 +232,7 @@ _holds, _pending = [], []
 
 
 def stop(number: int, _frame: types.FrameType | None) -> None:
-    """Ends what the script does, or what it does behind a `held` block. What comes while it ends what it started is ignored."""
+    """Handles a signal: stops the script, after the `held` block if it is in one. Further signals are ignored during the cleanup."""
     ignore_signals()
     _pending.append(signal.Signals(number).name)
     if not _holds:
@@ -240,7 +241,7 @@ def stop(number: int, _frame: types.FrameType | None) -> None:
 
 @contextlib.contextmanager
 def held() -> Iterator[None]:
-    """Lets a signal that comes in the block stop the script only behind it. Signals come to the main thread alone."""
+    """Has a signal that arrives in the block stop the script only after the block. Only the main thread handles signals."""
     if threading.current_thread() is not threading.main_thread():
         yield
         return
@@ -259,7 +260,7 @@ def ignore_signals() -> None:
 
 
 def heed_signals() -> None:
-    """Has the script stopped by each signal that it wasn't started to ignore."""
+    """Has each signal stop the script, unless the script was started to ignore it."""
     for number in SIGNALS:
         if signal.getsignal(number) != signal.SIG_IGN:
             signal.signal(number, stop)
@@ -269,19 +270,19 @@ def heed_signals() -> None:
 
 
 def tell(outcome: Outcome) -> int:
-    """Prints the last lines of an outcome, and returns its exit status. Where nobody reads them, the script has failed."""
+    """Prints the last lines of an outcome and returns its exit status. If the lines can't be written, the script has failed."""
     to = sys.stderr if outcome.on_error else sys.stdout
     try:
         print("\n".join(outcome.lines), file=to, flush=True)
         return outcome.status
     except OSError:
-        # what is left in the buffer goes nowhere when the script ends
+        # what is left in the buffer is discarded when the script ends
         os.dup2(os.open(os.devnull, os.O_WRONLY), to.fileno())
         return outcome.status or FAILED
 
 
 def wrapped(line: str, width: int) -> list[str]:
-    """A paragraph in lines of at most so many letters. Behind a name and spaces that stand before it the lines are indented as far."""
+    """Wraps a paragraph to a width. If it begins with spaces, or with a name between spaces, further lines are indented as its text is."""
     front = NAMED.match(line)[0]
     indent = len(front) if len(front) <= width // 2 else 4
     whole = textwrap.TextWrapper(width, subsequent_indent=" " * indent, break_long_words=False, break_on_hyphens=False)
@@ -293,7 +294,7 @@ def indent_of(line: str) -> int:
 
 
 def paragraphs_of(text: str) -> list[str]:
-    """The paragraphs of a text. An indented line is one by itself, with those behind it that are indented more."""
+    """Splits a text into paragraphs. An indented line begins a paragraph of its own, which the more indented lines after it continue."""
     paragraphs = [""]
     for line in text.strip().splitlines():
         last, indent = indent_of(paragraphs[-1]), indent_of(line)
@@ -305,22 +306,22 @@ def paragraphs_of(text: str) -> list[str]:
 
 
 class Help(argparse.HelpFormatter):
-    """A script's help in lines that fit 80 columns, with the paragraphs of its text."""
+    """Formats a script's help in lines of at most 80 columns, and keeps the paragraphs of its text."""
 
     def __init__(self, prog: str) -> None:
         super().__init__(prog, width=min(COLUMNS, shutil.get_terminal_size().columns) - 2)
 
     def _fill_text(self, text: str, width: int, indent: str) -> str:
-        """The text that tells what a script does."""
+        """Returns the text that says what a script does, wrapped."""
         return "\n".join(f"{indent}{line}" for paragraph in paragraphs_of(text) for line in wrapped(paragraph, width))
 
     def _split_lines(self, text: str, width: int) -> list[str]:
-        """The lines of an option's help, in which no option and no path is cut."""
+        """Returns the lines of an option's help. No option and no path is broken."""
         return wrapped(" ".join(text.split()), width)
 
 
 def run(main: Main, doc: str, take_words: Callable[[argparse.ArgumentParser], None]) -> NoReturn:
-    """Runs a script's main with the words that the script takes, and ends the script with its status."""
+    """Parses the arguments of a script, runs its main with them, and ends the script with the status of its outcome."""
     parser = argparse.ArgumentParser(description=doc, formatter_class=Help)
     take_words(parser)
     words = parser.parse_args()

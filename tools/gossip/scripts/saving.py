@@ -1,4 +1,4 @@
-"""The numbers that a script measured, as files beside what it prints: rows by the names of columns, as JSON or as CSV."""
+"""Writes what a script measured to files too: rows with named columns, as JSON or as CSV."""
 import argparse
 import csv
 import io
@@ -9,31 +9,31 @@ from collections.abc import Iterable, Sequence
 from gossip.scripts.console import Failure, Refusal
 
 
-# what was measured, by the names of columns
+# a row of what was measured, by the names of its columns
 Row = dict[str, str | float | None]
 
 
 def take_files(parser: argparse.ArgumentParser) -> None:
-    """Adds the options that name the files of a script's numbers."""
-    parser.add_argument("--json", type=pathlib.Path, metavar="FILE", help="write the numbers to this file too, as JSON: a list of objects")
-    parser.add_argument("--csv", type=pathlib.Path, metavar="FILE", help="write the numbers to this file too, as CSV with a line of names")
+    """Adds the options that name the files for a script's numbers."""
+    parser.add_argument("--json", type=pathlib.Path, metavar="FILE", help="also write the numbers to this file, as JSON: a list of objects")
+    parser.add_argument("--csv", type=pathlib.Path, metavar="FILE", help="also write the numbers to this file, as CSV with a header line")
 
 
 def refuse_files(words: argparse.Namespace) -> None:
-    """Refuses files that can't be written, before anything is measured."""
+    """Raises a `Refusal` if a named file is a folder or isn't in an existing one, before anything is measured."""
     for path in filter(None, (words.json, words.csv)):
         if path.is_dir() or not path.absolute().parent.is_dir():
             raise Refusal(f"{path} can't be written: name a file in a folder that is there")
 
 
 def json_of(rows: Iterable[Row]) -> str:
-    """The text of rows as JSON, each on a line of its own."""
+    """Returns rows as JSON, each on a line of its own."""
     lines = ",\n".join(map(json.dumps, rows))
     return f"[\n{lines}\n]\n"
 
 
 def csv_of(rows: Sequence[Row]) -> str:
-    """The text of rows as CSV, with all names that a row has."""
+    """Returns rows as CSV, with a column for each name that a row has."""
     text, names = io.StringIO(), dict.fromkeys(name for row in rows for name in row)
     writer = csv.DictWriter(text, list(names), lineterminator="\n")
     writer.writeheader()

@@ -1,13 +1,13 @@
-"""What peers are likely to play of a session, by its numbers: by what the experiments measured, whose tables stand in docs/EXPERIMENTS.md.
+"""Estimates what peers play of a session, from its numbers and from the tables of measurements in docs/EXPERIMENTS.md.
 
-The experiments vary one number at a time about a base. A peer has some updates from the broadcaster itself. Of the others a part comes by
-trades, which depends on three quantities:
-  reach    the peers for each one that the broadcaster sends an update to, which the tables of peers and of fan-out give
+The experiments vary one number at a time about a base. A peer gets some updates from the broadcaster itself. It gets a part of the others
+by trades, which depends on three quantities:
+  reach    the number of peers divided by the fan-out, from the tables of peers and of fan-out
   chances  the rounds in which exchanges may trade an update, at most one less than its life, and none for one of the last round
-  load     the updates of a round that a peer has to trade for, for each item that an exchange trades at most, by the table of cap
-The odds by reach and by chances are added, which no experiment tried, and by the load it is limited how many items come in a round. Between
-two values that were measured logarithms go by a straight line. Where datagrams are lost, less comes from the broadcaster, which sends each
-block twice, and the odds fall by the table of loss.
+  load     the updates of a round that a peer has to trade for, divided by the cap, from the table of cap
+The log odds by reach and by chances are added; no experiment varied both. The load limits how many items a peer gets in a round. Between
+two measured values, logarithms are interpolated linearly. If datagrams are lost, the broadcaster, which sends each block twice, delivers
+fewer updates, and the odds fall by the table of loss.
 """
 import collections
 import dataclasses
@@ -25,28 +25,28 @@ TABLES = ROOT / "docs/EXPERIMENTS.md"
 HEAD = re.compile(r"\| ([\w ,]+) \| played, mean \| least of a peer \| most of a peer \|.*")
 ROW = re.compile(r"\| ([\d.]+) \| ([\d.]+)% \| ([\d.]+)% \| ([\d.]+)% \|.*")
 
-# the numbers of the base on which this depends; its stream ends a round before its last
+# the numbers of the base on which the estimate depends; its stream ends one round before the last
 BASE = {"peers": 20, "rounds": 20, "life": 6, "cap": 8, "per_round": 8, "fanout": 3}
 
 # the columns of the tables
 COLUMNS = "mean", "least", "most"
 
-# the tables of loss by version: they differ from this one on
+# the tables of loss before this version, and from it on
 LOSSES, RESENT = ("loss, version 2", "loss"), 3
 
-# the least and the most that a share counts as, so that it has odds, and what is no difference between logarithms
+# the limits of a share, so that its odds are finite, and the largest difference of logarithms that counts as none
 LEAST, MOST, TINY = 0.002, 0.998, 1e-9
 
-# how near to each other a share and its limit have to be to lower each other: the more, the nearer
+# how sharply a share is limited: the higher this is, the nearer to its limit a share has to be to be lowered
 SHARPNESS = 4
 
-# the lives that may be chosen so that more is played: beyond the last nothing was measured
+# the lives that may be chosen so that peers play more; nothing was measured beyond the last
 LIVES = range(DEFAULTS["life"], 10)
 
 
 @dataclasses.dataclass(frozen=True)
 class Played:
-    """Which share of a stream peers play: their mean, the peer that plays the least, and the one that plays the most."""
+    """The share of a stream that peers play: their mean, the least of a peer, and the most of a peer."""
 
     mean: float
     least: float
@@ -55,13 +55,13 @@ class Played:
 
 @dataclasses.dataclass(frozen=True)
 class Expected(Played):
-    """The same as it's likely to be, with the numbers that lie beyond what was measured."""
+    """An estimate of the same, with a note for each number that is beyond what was measured."""
 
     beyond: tuple[str, ...] = ()
 
     @property
     def told(self) -> str:
-        """What is expected, in words."""
+        """The estimate in words."""
         beyond = f"; {listed(self.beyond)} than was measured" if self.beyond else ""
         some = f"some {self.mean:.0%} of the stream, a single one {self.least:.0%} to {self.most:.0%}"
         return f"peers play {some if self.least < 1 else 'all of the stream'}{beyond}"
@@ -72,7 +72,7 @@ Tables = dict[str, dict[float, Played]]
 
 
 def tables_in(text: str) -> Tables:
-    """The tables of a document on experiments: of each number what was played where it has its values."""
+    """Returns the tables of a document on experiments: for each number, what was played with each of its values."""
     tables, table = {}, {}
     for line in text.splitlines():
         head, row = HEAD.fullmatch(line), ROW.fullmatch(line)
@@ -87,7 +87,7 @@ def tables_in(text: str) -> Tables:
 
 
 def odds_of(share: float) -> float:
-    """The logarithm of the odds of a share."""
+    """Returns the logarithm of the odds of a share."""
     share = min(MOST, max(LEAST, share))
     return math.log(share / (1 - share))
 
@@ -97,7 +97,9 @@ def share_of(odds: float) -> float:
 
 
 def between(points: Iterable[tuple[float, float]], place: float) -> float:
-    """The value at a place, by a straight line between the points beside it; before the first and behind the last their own."""
+    """Returns the value at a place, interpolated linearly between points. Before the first and after the last it is the value of that
+    point.
+    """
     points = sorted(points)
     before = max((point for point in points if point[0] <= place), default=points[0])
     behind = min((point for point in points if point[0] >= place), default=points[-1])
@@ -110,32 +112,32 @@ def between(points: Iterable[tuple[float, float]], place: float) -> float:
 
 
 def straight_of(numbers: Mapping[str, float], loss: float = 0) -> float:
-    """Which part comes to a peer from the broadcaster, where so many of a hundred datagrams are lost: each block is sent twice."""
+    """Returns the share that a peer gets from the broadcaster, which sends each block twice, if `loss` percent of datagrams are lost."""
     return min(1, numbers["fanout"] / numbers["peers"]) * (1 - (loss / 100) ** 2)
 
 
 def traded(played: float, straight: float) -> float:
-    """Which part of what doesn't come to a peer from the broadcaster comes to it by trades, where it plays this share."""
+    """Returns the share that a peer gets by trades of what it doesn't get from the broadcaster, if it plays this share of all."""
     return min(MOST, max(LEAST, (played - straight) / (1 - straight)))
 
 
 def load_of(numbers: Mapping[str, float], per_round: float, loss: float = 0) -> float:
-    """How many of so many updates of a round a peer has to trade for, for each item of an exchange."""
+    """Returns how many of the updates of a round a peer has to trade for, divided by the cap."""
     return per_round * (1 - straight_of(numbers, loss)) / numbers["cap"]
 
 
 def limited(share: float, limit: float) -> float:
-    """A share under a limit: the lesser of both, or a little less than that where they are near each other."""
+    """Returns a share under a limit: the lesser of both, or a little less if they are near each other."""
     return (share**-SHARPNESS + limit**-SHARPNESS) ** (-1 / SHARPNESS)
 
 
 def limit_by(limited_share: float, share: float) -> float:
-    """The limit under which a share is limited to another one."""
+    """Returns the limit under which `share` becomes `limited_share`."""
     return (limited_share**-SHARPNESS - share**-SHARPNESS) ** (-1 / SHARPNESS)
 
 
 class Measured:
-    """What the tables say of one of their columns, by the logarithms of reach and load, and by chances."""
+    """What the tables have in one of their columns: points by the logarithm of the reach, and by that of the load."""
 
     def __init__(self, tables: Tables, name: str) -> None:
         peers, fanout, straight = BASE["peers"], BASE["fanout"], straight_of(BASE)
@@ -148,20 +150,20 @@ class Measured:
         self.limits = [(math.log(load), math.log(limit_by(share, most))) for load, share in caps.items() if share < most]
 
     def limit(self, load: float) -> float:
-        """Which part comes at most, where so much has to be traded for: beyond what was measured as many items come as at its end."""
+        """Returns the largest share that a peer can trade for at this load. Beyond the measured loads the number of items is constant."""
         place, ends = math.log(load), (min(self.limits)[0], max(self.limits)[0])
         beyond = place - min(max(place, ends[0]), ends[1])
         return math.exp(between(self.limits, place) - beyond)
 
     def share(self, reach: float, load: float, more_odds: float) -> float:
-        """The part that comes by trades."""
+        """Returns the share that a peer gets by trades."""
         return limited(share_of(between(self.reach, math.log(reach)) + more_odds), self.limit(load))
 
 
 def odds_by_chances(table: dict[float, Played]) -> list[tuple[int, float]]:
-    """The odds of an update by how many rounds may trade it, beside those of the base, by the table of life.
+    """Returns the log odds of an update by the number of rounds that may trade it, minus those of the base, by the table of life.
 
-    In a stream of all rounds but the last, the updates of the last rounds have fewer chances than a life gives.
+    The measured streams fill all rounds but the last, so the updates of the last rounds have fewer chances than a life gives.
     """
     points = [(life, odds_of(traded(played.mean, straight_of(BASE)))) for life, played in table.items()]
     streamed, shares = BASE["rounds"] - 1, {}
@@ -172,27 +174,27 @@ def odds_by_chances(table: dict[float, Played]) -> list[tuple[int, float]]:
 
 
 def odds_by_loss(table: dict[float, Played]) -> list[tuple[float, float]]:
-    """The odds by how many of a hundred datagrams are lost, beside those where none is. Losses bring nothing."""
+    """Returns the log odds by the percentage of lost datagrams, minus those without loss. Losses never raise them."""
     odds = {loss: odds_of(traded(played.mean, straight_of(BASE, loss))) for loss, played in table.items()}
     return [(loss, min(0, its - odds[0])) for loss, its in odds.items()]
 
 
 @dataclasses.dataclass(frozen=True)
 class Experiments:
-    """What the experiments measured: by the names of columns, the odds by chances, and those by losses by the names of their tables."""
+    """What the experiments measured: the columns by name, the odds by chances, and the odds by loss for each table of losses."""
 
     columns: dict[str, Measured]
     chances: list[tuple[int, float]]
     losses: dict[str, list[tuple[float, float]]]
 
     def odds_at(self, loss: float, version: int) -> float:
-        """The odds where so many of a hundred datagrams are lost in a session of this version, beside those where none is."""
+        """Returns the log odds with `loss` percent of lost datagrams in a session of this version, minus those without loss."""
         return between(self.losses[LOSSES[version >= RESENT]], loss)
 
 
 @functools.cache
 def measured() -> Experiments:
-    """What the experiments of this repository measured."""
+    """Returns what the experiments of this repository measured."""
     try:
         tables = tables_in(TABLES.read_text("utf-8"))
         columns, losses = {name: Measured(tables, name) for name in COLUMNS}, {name: odds_by_loss(tables[name]) for name in LOSSES}
@@ -205,14 +207,14 @@ def measured() -> Experiments:
 
 
 def parts_of(pieces: int, numbers: Numbers) -> Iterator[tuple[float, int]]:
-    """The part of a stream that each round has, with the rounds in which it may be traded."""
+    """Yields the share of a stream that each round has, with the number of rounds in which it may be traded."""
     per_round = min(pieces, numbers["per_round"])
     for number in range(1, -(-pieces // per_round) + 1):
         yield min(per_round, pieces - per_round * (number - 1)) / pieces, min(numbers["life"] - 1, numbers["rounds"] - number)
 
 
 def expected(numbers: Numbers, length: int, loss: float = 0) -> Expected:
-    """What peers are likely to play of a stream of so many bytes, where nobody is late and so many of a hundred datagrams are lost."""
+    """Estimates what peers play of a stream of this length, if no party is late and `loss` percent of datagrams are lost."""
     pieces, straight = pieces_of(length), straight_of(numbers, loss)
     if straight >= 1 or not pieces:
         return Expected(1, 1, 1)
@@ -228,7 +230,7 @@ def expected(numbers: Numbers, length: int, loss: float = 0) -> Expected:
 
 
 def beyond(found: Experiments, numbers: Numbers, load: float, loss: float) -> Iterator[str]:
-    """What of a session lies beyond what was measured, in words."""
+    """Yields, in words, in which respects a session is beyond what was measured."""
     column = found.columns["mean"]
     if math.log(numbers["peers"] / numbers["fanout"]) > max(column.reach)[0] + TINY:
         yield "more peers for this fan-out"
@@ -239,7 +241,7 @@ def beyond(found: Experiments, numbers: Numbers, load: float, loss: float) -> It
 
 
 def lines_of(numbers: Numbers, length: int, loss: float = 0) -> Iterator[str]:
-    """What to expect of a session of these numbers, in words, and that a part of its stream can't be traded, if that's so."""
+    """Yields lines on what to expect of a session of these numbers, and on the part of its stream that can't be traded, if any."""
     lost = f"{loss:g}% of datagrams are lost" if loss else "nothing is lost"
     try:
         yield f"expected: {expected(numbers, length, loss).told}, if no party is late and {lost}"
@@ -250,14 +252,14 @@ def lines_of(numbers: Numbers, length: int, loss: float = 0) -> Iterator[str]:
         yield f"{counted(last, 'update')} of the last round can't be traded: take more rounds, or --fanout {numbers['peers']}"
 
 
-# ---- numbers by which so much is played
+# ---- numbers with which peers play a given share
 
 
 def chosen(given: Numbers, numbers: Numbers, length: int, plays: float, loss: float = 0) -> Numbers:
-    """Numbers by which peers are likely to play so many percent of a stream, where these are given, and the others are to be changed.
+    """Returns numbers with which peers are expected to play `plays` percent of a stream. Only numbers that aren't given are changed.
 
-    The fan-out is the least, for the broadcaster sends each update so often, and then the life and the cap. Neither is below its default,
-    as they bring what is lost.
+    The fan-out is chosen first, as low as possible, as the broadcaster sends each update that many times; then the life and then the cap.
+    The life and the cap aren't below their defaults, as they make up for losses.
     """
 
     def mean_by(tried: Numbers) -> float:

@@ -1,4 +1,4 @@
-"""Makes a session in a new folder: a key file for each party, the session's text, and a copy of the stream. What can't be is refused."""
+"""Makes a session in a new folder: a key file for each party, the session's text, and a copy of the stream. Impossible ones are refused."""
 import contextlib
 import dataclasses
 import hashlib
@@ -16,16 +16,16 @@ from gossip.sessions.session_folder import Folder, free_port, make_key, seconds_
 
 
 def option_of(name: str) -> str:
-    """The option of a script that gives a number of the session."""
+    """Returns the option of a script that gives a number of the session."""
     return f"--{name.replace('_', '-')}"
 
 
 @dataclasses.dataclass(frozen=True)
 class Wanted:
-    """The session that is wanted: its folder, its stream and its numbers. A number that wasn't read is the text that stands for it.
+    """The session to make: its folder, its stream and its numbers. A number that couldn't be read is the text that was given for it.
 
-    The port may be left out, and free ones are found then. Where the type of an upper tree is there, signatures have two levels. The seed,
-    from which all secrets are derived, is text of hex digits, or None.
+    If the port is missing, free ones are chosen. If the type of an upper tree is given, signatures have two levels. The seed, from which
+    all secrets are derived, is a text of hex digits, or None for a random one.
     """
 
     folder: pathlib.Path
@@ -34,7 +34,7 @@ class Wanted:
     seed: str | None = None
 
     def faults(self) -> Iterator[str]:
-        """What refuses it."""
+        """Yields the reasons to refuse it."""
         names = [*DEFAULTS, *(name for name in FREE if name in self.numbers)]
         yield from faults_of_folder(self.folder)
         yield from faults_of_numbers(self.numbers, names, option_of)
@@ -43,7 +43,7 @@ class Wanted:
 
 
 def faults_of_folder(path: pathlib.Path) -> Iterator[str]:
-    """What refuses to make this folder."""
+    """Yields the reasons why this folder can't be made."""
     above = next((parent for parent in path.absolute().parents if parent.exists()), path)
     if os.path.lexists(path):
         yield f"{path} is there already: name a folder that isn't"
@@ -54,7 +54,7 @@ def faults_of_folder(path: pathlib.Path) -> Iterator[str]:
 
 
 def faults_of_stream(path: pathlib.Path, numbers: Mapping[str, object]) -> Iterator[str]:
-    """What refuses the file of a stream in a session of these numbers, as far as they are numbers."""
+    """Yields the reasons to refuse a file as the stream of a session. Whether it fits is checked only if the numbers are valid."""
     names = names_in(numbers, [field.name for field in dataclasses.fields(Room)])
     if not path.is_file():
         yield f"the stream {path} is {'no file' if path.exists() else 'missing'}: name a file"
@@ -65,7 +65,7 @@ def faults_of_stream(path: pathlib.Path, numbers: Mapping[str, object]) -> Itera
 
 
 def faults_of_seed(seed: str | None) -> Iterator[str]:
-    """What refuses the text of a seed."""
+    """Yields the reason to refuse the text of a seed, if it isn't hex."""
     try:
         bytes.fromhex(seed or "")
     except ValueError:
@@ -77,7 +77,7 @@ def faults_of_seed(seed: str | None) -> Iterator[str]:
 
 @contextlib.contextmanager
 def new_folder(path: pathlib.Path) -> Iterator[Folder]:
-    """Makes a folder, for its owner alone, and those above it that aren't there. Nothing of them is left where the block fails."""
+    """Makes a folder that only its owner can access, and its missing parents. If the block fails, all of them are removed again."""
     above = [parent for parent in path.absolute().parents if not parent.exists()]
     mask, made = os.umask(0o077), False
     try:
@@ -94,7 +94,7 @@ def new_folder(path: pathlib.Path) -> Iterator[Folder]:
 
 
 def remove(folder: pathlib.Path, above: Iterable[pathlib.Path]) -> None:
-    """Removes a folder with all that is in it, and those above it in which nothing else is left."""
+    """Removes a folder with all that is in it, and then those of its parents `above` that are empty."""
     with contextlib.suppress(OSError):
         shutil.rmtree(folder)
         for parent in above:
@@ -108,7 +108,7 @@ def derived(seed: bytes, what: str) -> bytes:
 def make_keys(
     folder: Folder, program: pathlib.Path, session_id: str, numbers: Numbers, seed: bytes, told: str | None = "keys"
 ) -> list[str]:
-    """Makes all key files, as many at once as there are processors, and returns what a session's text says of each party."""
+    """Makes all key files, as many at a time as there are processors, and returns the lines of the session's text on each party."""
 
     def make_one(party: int) -> str:
         return make_key(folder, program, party, session_id, numbers, derived(seed, f"secret {party}"))
@@ -118,13 +118,13 @@ def make_keys(
 
 
 def text_of(session_id: str, numbers: Numbers, keys: Iterable[str]) -> str:
-    """The session's text."""
+    """Returns the session's text."""
     lines = [f"{name} = {numbers[name]}" for name in NUMBERS if name in numbers and name not in ("version", "peers")]
     return "\n".join([f"version = {numbers['version']}", f'id = "{session_id}"', *lines, "\n[[peer]]\n".join(keys)])
 
 
 def make(wanted: Wanted, program: pathlib.Path, told: str | None = "keys") -> tuple[Folder, Session]:
-    """Makes a session that nothing refuses, and returns its folder and its numbers. How far it is, is told as these, or not."""
+    """Makes a session that has no faults. Returns its folder and its numbers. Progress is reported with the label `told`, if any."""
     seed = secrets.token_bytes(32) if wanted.seed is None else bytes.fromhex(wanted.seed)
     session_id = derived(seed, "session")[:8].hex()
     numbers = wanted.numbers if "port" in wanted.numbers else wanted.numbers | {"port": free_port(wanted.numbers["peers"] + 1)}
@@ -136,6 +136,6 @@ def make(wanted: Wanted, program: pathlib.Path, told: str | None = "keys") -> tu
 
 
 def summary_of(folder: Folder, session: Session) -> str:
-    """What was made, in words."""
+    """Returns a line that describes the new session."""
     length = folder.stream.stat().st_size
     return f"session {session.id}: {session.peers} peers, {session.seconds:.1f} s, a stream of {length} bytes in a room of {session.room}"

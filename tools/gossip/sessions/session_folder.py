@@ -1,4 +1,4 @@
-"""The folder of a session, the words of its parties, the time at which it begins, and its ports.
+"""The folder of a session, the arguments of its parties, the time at which it begins, and its ports.
 
 A session's folder has these files:
   session.toml      the session's text
@@ -6,9 +6,9 @@ A session's folder has these files:
   key.P             the key file of party P; party 0 is the broadcaster
   party.P.played, party.P.recording, party.P.table, party.P.Q
                     what party P played, what it took, the manifests that it knew, and its evidence against party Q
-  network.json      what a network did that loses, repeats or delays, and who lied, where the session was disturbed
-  session.json      what the run was, as data
-  video.json        what decodes of the stream and of what peers played, where it was a video
+  network.json      if the session was disturbed: what the network lost and repeated, how it delayed, and who lied
+  session.json      the data of the run
+  video.json        if the stream was a video: what can be decoded of it and of what peers played
   timeline.html     the run as a page
 """
 import collections
@@ -29,12 +29,12 @@ LOOPBACK = "127.0.0.1"
 SMALLEST, LARGEST = min(LEAVES, key=LEAVES.get), max(LEAVES, key=LEAVES.get)
 
 
-# what parties found: the bytes of files, by the party and by what they are called behind its number
+# what parties found: the bytes of files, by the party and by the part of their names after its number
 Findings = dict[int, dict[str, bytes]]
 
 
 class Folder:
-    """A session's folder, and where everything in it stands."""
+    """A session's folder, with the paths of all that is in it."""
 
     def __init__(self, path: str | pathlib.Path) -> None:
         self.path = pathlib.Path(path).resolve()
@@ -57,7 +57,7 @@ class Folder:
         return self.path / f"party.{party}.recording"
 
     def findings(self) -> Findings:
-        """What each party found: the bytes of its files, by what they are called behind its number."""
+        """Returns what each party found: the bytes of its files, by the part of their names after its number."""
         found = collections.defaultdict(dict)
         for file in self.path.glob("party.*"):
             finding = finding_of(file.name)
@@ -67,11 +67,11 @@ class Folder:
         return found
 
 
-# ---- words
+# ---- arguments
 
 
 def session_words(folder: Folder, program: pathlib.Path, begin: int) -> list[Word]:
-    """The words of a whole session, which begins at so many milliseconds of Unix time."""
+    """Returns the program and its arguments for a whole session that begins at this time, in milliseconds of Unix time."""
     files = {"session": folder.session, "keys": folder.keys, "stream": folder.stream}
     return [program, *words_of("session", **files, begin=begin, results=folder.results, program=program)]
 
@@ -79,18 +79,18 @@ def session_words(folder: Folder, program: pathlib.Path, begin: int) -> list[Wor
 def party_words(
     folder: Folder, program: pathlib.Path, party: int, begin: int, results: pathlib.Path | None = None, session: pathlib.Path | None = None
 ) -> list[Word]:
-    """The words of one party, which are those that a session starts it with, but for its results and text where these stand elsewhere."""
+    """Returns the program and its arguments for one party, as the command `session` has them. Results and text may be elsewhere."""
     own = f"{results or folder.results}.{party}"
     values = {"session": session or folder.session, "key": folder.key(party), "begin": begin, "stream": folder.stream}
     values |= {"played": f"{own}.played", "recording": f"{own}.recording", "found": own}
     return [program, *words_of("peer" if party else "broadcaster", **values)]
 
 
-# ---- keys, and the time that they take
+# ---- keys, and the time needed to make them
 
 
 def key_of(folder: Folder, session: Session, party: int) -> KeyFile:
-    """The key file of a party. One that isn't this session's is malformed."""
+    """Returns the key file of a party. Raises a `Malformed` if it isn't a key of this session."""
     key = KeyFile.of_text(folder.key(party).read_bytes())
     for fault in key.faults(session, party):
         raise Malformed(fault)
@@ -98,7 +98,7 @@ def key_of(folder: Folder, session: Session, party: int) -> KeyFile:
 
 
 def make_key(folder: Folder, program: pathlib.Path, party: int, session_id: str, numbers: Numbers, secret: bytes) -> str:
-    """Makes a key file of the secret in the folder for a session of these numbers, whose text has the returned lines on the party."""
+    """Makes a key file from a secret, for a session of these numbers. Returns the lines that the session's text has on the party."""
     path = folder.path / f"secret.{party}"
     path.write_bytes(secret)
     try:
@@ -111,22 +111,22 @@ def make_key(folder: Folder, program: pathlib.Path, party: int, session_id: str,
 
 
 def begin_of(session: Session, program: pathlib.Path, trees: int = 1) -> int:
-    """When a session begins that is started now, in milliseconds of Unix time: after all parties have made their keys.
+    """Returns when a session that is started now may begin, in milliseconds of Unix time: after all parties have made their keys' trees.
 
-    How long that takes is measured by the same number of keys with the smallest tree, all made at once; a tree with more leaves takes so
-    many times longer. Of a key of two levels the upper tree is made. A party may make so many trees, one behind the other.
+    The time for that is estimated by making as many keys with the smallest tree, all at once; a larger tree takes longer in proportion to
+    its leaves. Of a key of two levels only the upper tree counts. A party may make `trees` trees, one after the other.
     """
     smallest = seconds_of_smallest(program, session.parties, session.id, session.ots, len(session.parties))
     return round(1000 * (time.time() + 1 + 1.5 * smallest * trees * times_longer(session.lms, session.top)))
 
 
 def times_longer(lms: int, top: int | None) -> float:
-    """How many times longer a key with this tree, or with this upper one, takes than one with the smallest tree."""
+    """Returns how many times longer it takes to make a key with this tree, or with this upper one, than one with the smallest tree."""
     return LEAVES[top or lms] / LEAVES[SMALLEST]
 
 
 def seconds_of_smallest(program: pathlib.Path, parties: Collection[int], session_id: str, ots: int, at_once: int | None = None) -> float:
-    """How many seconds these parties' keys take with the smallest tree, so many made at once, or as many as there are processors."""
+    """Returns how many seconds these parties' keys take with the smallest tree, `at_once` at a time or one for each processor."""
     with tempfile.TemporaryDirectory() as room:
         folder, started = Folder(room), time.monotonic()
         numbers = {"rounds": 1, "lms": SMALLEST, "ots": ots}
@@ -135,7 +135,7 @@ def seconds_of_smallest(program: pathlib.Path, parties: Collection[int], session
 
 
 def seconds_of_keys(program: pathlib.Path, parties: Collection[int], session_id: str, numbers: Numbers) -> float | None:
-    """How many seconds the keys of these parties are likely to take, or None where that is too short to be told."""
+    """Estimates how many seconds the keys of these parties take. Returns None if the time is too short to be reported."""
     times = times_longer(numbers["lms"], numbers.get("top"))
     if times < LEAVES[LARGEST] / LEAVES[SMALLEST]:
         return None
@@ -156,7 +156,7 @@ def is_free(port: int) -> bool:
 
 
 def free_port(parties: int) -> int:
-    """A port from which on as many ports as there are parties are free, below those that the system hands out."""
+    """Returns the first of as many consecutive free ports as there are parties, below those that the system assigns."""
     for port in random.sample(range(20_000, 32_000 - parties), 100):
         if all(map(is_free, range(port, port + parties))):
             return port

@@ -1,1 +1,1 @@
-"""The program where the system fails it: disks, limits, signals, clocks, memory and streams."""
+"""Runs of the program in which the system fails: disks, limits, signals, clocks, memory and streams."""

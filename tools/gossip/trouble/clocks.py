@@ -1,8 +1,8 @@
 """A clock that is set forward or back for one process, while the machine's own clock stays as it is.
 
-The program reads the machine's time of day (CLOCK_REALTIME) through the C library, and waits for spans of time alone. So a small library
-that is loaded before the C library can tell it another time; what it adds stands in a file, which may change while the process runs. A time
-namespace wouldn't do: it shifts only clocks that count from the machine's start.
+The program reads the machine's time of day (CLOCK_REALTIME) through the C library, and waits only for spans of time. So a small library
+that is loaded before the C library can return another time. The seconds that it adds are in a file, which may change while the process
+runs. A time namespace isn't enough, because it shifts only clocks that count from the machine's start.
 """
 import os
 import pathlib
@@ -39,7 +39,7 @@ int clock_gettime(clockid_t clock, struct timespec *time) {
 
 
 class Clock:
-    """A clock in a folder, which is right at first."""
+    """A clock in a folder, which is correct at first."""
 
     def __init__(self, room: pathlib.Path) -> None:
         self.library, self.file = room / "clock.so", room / "seconds"
@@ -56,11 +56,11 @@ class Clock:
         return os.environ | {"LD_PRELOAD": str(self.library), "SHIFTED_SECONDS": str(self.file)}
 
     def set(self, seconds: int) -> None:
-        """Sets the clock so many seconds forward."""
+        """Sets the clock so many seconds ahead of the machine's, or behind it if the number is negative."""
         with open(self.file, "r+b" if self.file.exists() else "wb") as file:
             file.write(struct.pack("=q", seconds))
 
     def require(self, process: int) -> None:
-        """A process that doesn't read this clock, as it takes no library, is none that can be tried."""
+        """Raises `Skipped` if a process doesn't read this clock, because it loads no library before its own."""
         if str(self.library) not in pathlib.Path(f"/proc/{process}/maps").read_text("utf-8"):
             raise Skipped("the program takes no library before its own, so its clock can't be set")

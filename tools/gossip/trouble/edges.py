@@ -1,4 +1,4 @@
-"""Commands that are run in trouble, and what is promised of how they end and of what they leave."""
+"""Runs commands in trouble, and checks what is promised about how they end and what they leave."""
 import collections
 import contextlib
 import dataclasses
@@ -49,7 +49,7 @@ class Command:
     name: str
     read: dict[str, object]
     written: tuple[str, ...] = ()
-    # the option of a key file that is written anew
+    # the option that names a key file, which is rewritten
     spends: str | None = None
 
     @property
@@ -58,7 +58,7 @@ class Command:
         return [name for name, value in self.read.items() if isinstance(value, pathlib.Path)]
 
     def words(self, room: pathlib.Path, **others: object) -> list[str]:
-        """The words of the command, which writes in a folder, with other values of some options."""
+        """Returns the arguments of the command, which writes in the folder `room`. `others` replaces the values of some options."""
         own = {self.spends: room / "key"} if self.spends else {}
         places = {name: room / "out" / name for name in self.written}
         return words_of(self.name, **self.read | own | places | others)
@@ -66,7 +66,7 @@ class Command:
 
 @dataclasses.dataclass(frozen=True)
 class Done:
-    """How a command ended, the files that it left by their names, and where it spends a key, that file before and behind it."""
+    """How a command ended, and the files that it left, by name. If it spends a key: the key file before and after it."""
 
     ran: Ran
     files: dict[str, bytes]
@@ -79,7 +79,7 @@ class Done:
 
 
 def front_faults(files: dict[str, bytes], whole: dict[str, bytes]) -> Iterator[str]:
-    """The files that aren't fronts of those of a whole run."""
+    """Yields the files that aren't prefixes of those of a whole run."""
     for name, data in sorted(files.items()):
         if name not in whole:
             yield f"it leaves the file {name}, which a whole run doesn't"
@@ -88,7 +88,7 @@ def front_faults(files: dict[str, bytes], whole: dict[str, bytes]) -> Iterator[s
 
 
 def said_faults(ran: Ran) -> Iterator[str]:
-    """What is wrong with the line on standard error, by the status."""
+    """Yields what is wrong with the line on standard error, given the status."""
     said, form = ran.said.decode(errors="replace"), SAID.get(ran.status)
     if form is None and said:
         yield f"with status {ran.status} it says {said!r}"
@@ -97,19 +97,19 @@ def said_faults(ran: Ran) -> Iterator[str]:
 
 
 def key_faults(done: Done, whole: Done) -> Iterator[str]:
-    """A key file that was to be spent is as it was, or what a whole run leaves."""
+    """Yields a fault if the key file is neither unchanged nor what a whole run leaves."""
     if done.is_key_changed and done.key != whole.key:
         yield "the key file is neither as it was nor the spent one"
 
 
 class Look:
-    """What is seen of a number of runs: how they ended, and what isn't as promised."""
+    """What was seen of a number of runs: how they ended, and what isn't as promised."""
 
     def __init__(self) -> None:
         self.ends, self.faults, self.notes = collections.defaultdict(collections.Counter), [], []
 
     def end(self, label: str, ran: Ran, statuses: Collection[int], said: bool = True) -> None:
-        """Notes how a run ended, which is to be by one of these statuses, with the line of it unless nobody could read that."""
+        """Notes how a run ended. The status has to be one of these. If `said`, the line on standard error has to fit the status."""
         if ran.status == UNMOUNTED and UNMOUNTED not in statuses:
             raise Skipped(f"nothing can be mounted: {' '.join(ran.said.decode(errors='replace').split())}")
         self.ends[label][ran.status] += 1
@@ -119,7 +119,7 @@ class Look:
         self.faults += [f"{label}: {fault}" for fault in (said_faults(ran) if said else ())]
 
     def take(self, label: str, done: Done, whole: Done, *statuses: int, said: bool = True) -> None:
-        """Notes how a command ended, and what it left, which is to begin what a whole run leaves."""
+        """Notes how a command ended and what it left. Its files have to be prefixes of those that a whole run leaves."""
         self.end(label, done.ran, statuses, said)
         faults = [*front_faults(done.files, whole.files), *key_faults(done, whole)]
         if done.ran.status in (Status.DONE, Status.NO_FAULT) and done.files.keys() != whole.files.keys():
@@ -133,7 +133,7 @@ class Look:
 
     @property
     def told(self) -> str:
-        """How the runs ended, in words."""
+        """A description of how the runs ended."""
         parts = []
         for label, ends in self.ends.items():
             times = [f"{status}" if len(ends) == 1 else f"{status} ({count})" for status, count in sorted(ends.items())]
@@ -142,7 +142,7 @@ class Look:
 
 
 class Bench:
-    """The program with a session that ran undisturbed, and commands whose whole runs are known."""
+    """The program, a session that ran undisturbed, and commands whose whole runs are known."""
 
     def __init__(self, room: pathlib.Path, program: pathlib.Path, ports: Sequence[int]) -> None:
         self.room, self.program = room, program
@@ -162,7 +162,7 @@ class Bench:
         return round(1000 * time.time())
 
     def known_commands(self) -> dict[str, Command]:
-        """The commands whose whole runs take little time. The parties among them begin in the past: all their ticks are due at once."""
+        """Returns commands whose whole runs are short. The parties among them begin in the past, so all their ticks are due at once."""
         secret = self.room / "secret"
         secret.write_bytes(bytes(range(32)))
         evidence = {"session": EXAMPLE / "session.toml", "table": EXAMPLE / "table", "evidence": EXAMPLE / "bad-opening"}
@@ -180,7 +180,7 @@ class Bench:
         return {command.name: command for command in commands}
 
     def usable(self, *names: str) -> list[Command]:
-        """The commands of these names, or all, as far as the program has them."""
+        """Returns the commands of these names, or all commands, except for those that the program doesn't have."""
         return [self.commands[name] for name in names or self.commands if name not in self.lacking]
 
     def new_folder(self) -> pathlib.Path:
@@ -195,7 +195,7 @@ class Bench:
         stderr: int | IO = subprocess.PIPE,
         **others: object,
     ) -> Done:
-        """Runs a command in a new folder, behind the words for this folder, once that was prepared."""
+        """Prepares a new folder and runs a command in it, with the prefix that `front` returns for the folder."""
         room = self.new_folder()
         (room / "out").mkdir()
         (room / "kept").mkdir()
@@ -203,7 +203,7 @@ class Bench:
             shutil.copy(command.read[command.spends], room / "key")
         prepare(room)
         words = [*map(str, front(room)), str(self.program), *command.words(room, **others)]
-        # parties bind one port
+        # all parties bind the same port, so they run one at a time
         with self.port if command.spends else contextlib.nullcontext(), running(words, stdout=stdout, stderr=stderr) as process:
             printed, said = await_end(process)
         left = [path for part in ("out", "kept") for path in (room / part).iterdir()]
@@ -214,7 +214,7 @@ class Bench:
     # ---- live sessions
 
     def copy(self, name: str, **numbers: int) -> tuple[Folder, Session]:
-        """A copy of the session, with fresh keys, ports of its own and other numbers."""
+        """Makes a copy of the session, with fresh keys, another port, and these numbers instead of its own."""
         folder = Folder(self.room / name)
         shutil.copytree(self.folder.path, folder.path)
         text = folder.session.read_text("utf-8")
@@ -231,7 +231,7 @@ class Bench:
         begin: int | None = None,
         **numbers: int,
     ) -> tuple[Folder, dict[int, Ran]]:
-        """Runs a copy of the session with a disturbance: its folder, and how its parties ended."""
+        """Runs a copy of the session with a disturbance. Returns its folder, and how its parties ended."""
         folder, session = self.copy(name, **numbers)
         begin = self.now() + self.lead if begin is None else begin
         with started(folder, session, self.program, begin, ways(folder)) as live:
@@ -239,7 +239,7 @@ class Bench:
             return folder, live.ends()
 
     def party_faults(self, folder: Folder, party: int, is_whole: bool) -> Iterator[str]:
-        """What isn't as promised of what a peer left."""
+        """Yields what isn't as promised in what a peer left."""
         path = folder.recording(party)
         if not path.exists():
             return
@@ -256,7 +256,7 @@ class Bench:
         yield from found_differences(folder.findings()[party], log)
 
     def cut_faults(self, folder: Folder, party: int) -> Iterator[str]:
-        """A recording without an end is refused, by the place where it's cut."""
+        """Yields a fault unless a recording without an end is refused as a cut one."""
         with tempfile.TemporaryDirectory() as room:
             files = {"session": folder.session, "key": folder.key(party), "recording": folder.recording(party)}
             ran = run_words(self.program, words_of("replay", **files, played=f"{room}/played", found=f"{room}/found"))
@@ -264,7 +264,7 @@ class Bench:
             yield f"its recording, which is cut, is replayed with {ran.told}"
 
     def look_at(self, look: Look, folder: Folder, ended: dict[int, Ran], disturbed: Mapping[int, Collection[int]] | None = None) -> None:
-        """Notes how all parties ended and what they left. Those that were disturbed may end by these statuses, all others by 0."""
+        """Notes how all parties ended and what they left. Those that were disturbed may end with these statuses, all others only with 0."""
         for party, ran in sorted(ended.items()):
             statuses = (disturbed or {}).get(party, (Status.DONE,))
             label = f"party {party}"
@@ -274,7 +274,7 @@ class Bench:
                 look.fault_if(label, self.party_faults(folder, party, ran.status == Status.DONE))
 
     def spent_faults(self, folder: Folder, party: int) -> Iterator[str]:
-        """The key of a party that was started is spent."""
+        """Yields a fault if the key of a party that was started isn't spent."""
         try:
             if not KeyFile.of_text(folder.key(party).read_bytes()).spent:
                 yield "its key isn't spent"
@@ -283,7 +283,7 @@ class Bench:
 
 
 def read_slowly(place: pathlib.Path, front: bytes, rest: bytes) -> None:
-    """Gives a reader of this pipe the front of a file; then another file takes its place, and the reader is given the rest."""
+    """Gives a reader of this pipe the first part of a file, replaces the pipe by another file, and then gives the reader the rest."""
     with open(place, "wb", buffering=0) as pipe:
         pipe.write(front)
         other = place.with_suffix(".other")
@@ -293,7 +293,7 @@ def read_slowly(place: pathlib.Path, front: bytes, rest: bytes) -> None:
 
 
 def changed(draw: random.Random, data: bytes) -> bytes:
-    """Bytes with a bit turned, cut, or with bytes put in or left out, at a place that is drawn."""
+    """Returns the bytes with a random change: a bit is flipped, the end is cut off, or bytes are inserted or removed."""
     at = draw.randrange(len(data))
     some = draw.randbytes(draw.randrange(1, 4))
     turned = bytes([data[at] ^ 1 << draw.randrange(8)])

@@ -1,7 +1,7 @@
-"""Trouble that a process is started in: small, full and read-only folders, and limits of the system.
+"""Trouble in which a process is started: small, full and read-only folders, and limits of the system.
 
-What a machine doesn't allow is skipped. Each is told as words that stand before those of the process. The folders are mounted in a
-namespace of the process alone, so that nothing is mounted behind it.
+What a machine doesn't allow is skipped. Each trouble is given as a prefix of the command that starts the process. Folders are mounted in a
+namespace of the process alone, so nothing stays mounted after it.
 """
 import functools
 import os
@@ -20,11 +20,11 @@ UNMOUNTED = 125
 
 
 class Skipped(Exception):
-    """What this machine doesn't allow, for this reason."""
+    """Raised with the reason if this machine doesn't allow something."""
 
 
 def found(tool: str) -> str:
-    """The path of a tool of the system."""
+    """Returns the path of a tool of the system. Raises `Skipped` if it is missing."""
     path = shutil.which(tool)
     if not path:
         raise Skipped(f"there is no `{tool}`")
@@ -33,7 +33,7 @@ def found(tool: str) -> str:
 
 @functools.cache
 def namespace() -> list[str]:
-    """The words that give a process mounts of its own."""
+    """Returns the command prefix that gives a process mounts of its own."""
     rights = [] if os.geteuid() == 0 else ["--user", "--map-root-user"]
     words = [found("unshare"), *rights, "--mount"]
     with tempfile.TemporaryDirectory() as place:
@@ -44,17 +44,17 @@ def namespace() -> list[str]:
 
 
 def on_small_disk(place: pathlib.Path, kept: pathlib.Path, size: str, is_full: bool = False) -> list[str]:
-    """Mounts a disk of this size over a folder, which may be full, and copies what stands there in the end to another."""
+    """Returns the command prefix that mounts a disk of this size over `place`, filled if `is_full`, and copies its files to `kept`."""
     return [*namespace(), "sh", "-c", MOUNT % (size, FILL if is_full else "") + KEEP, str(place), str(kept)]
 
 
 def on_read_only(place: pathlib.Path) -> list[str]:
-    """Has a folder take nothing."""
+    """Returns the command prefix that makes a folder read-only."""
     return [*namespace(), "sh", "-c", READ_ONLY, str(place)]
 
 
 def without_network() -> list[str]:
-    """Takes the network away, the loopback address too."""
+    """Returns the command prefix that takes the network away, including the loopback address."""
     rights = [] if os.geteuid() == 0 else ["--user", "--map-root-user"]
     words = [found("unshare"), *rights, "--net"]
     probe = subprocess.run([*words, "true"], capture_output=True, text=True, stdin=subprocess.DEVNULL)
@@ -64,10 +64,10 @@ def without_network() -> list[str]:
 
 
 def limited(name: str, value: int) -> list[str]:
-    """Sets a limit of the system: `nofile` of open files, `as` of bytes of memory, `fsize` of a file's bytes."""
+    """Returns the command prefix that sets a limit: `nofile` of open files, `as` of bytes of memory, `fsize` of a file's bytes."""
     return [found("prlimit"), f"--{name}={value}:{value}"]
 
 
 def without_signal(name: str) -> list[str]:
-    """Has a signal ignored."""
+    """Returns the command prefix that makes a process ignore a signal."""
     return ["sh", "-c", f'trap "" {name}; exec "$0" "$@"']

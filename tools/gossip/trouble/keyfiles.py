@@ -1,4 +1,4 @@
-"""What becomes of key files: runs that share one, runs that are killed while they spend one, and runs that name one as a file to write."""
+"""What happens to key files: runs that share one, runs that are killed while they spend one, and runs that name one as a file to write."""
 import dataclasses
 import os
 import pathlib
@@ -14,21 +14,21 @@ from gossip.programs.bar import Ran, Status, Word, await_end, run_words, running
 from gossip.sessions import making
 from gossip.sessions.session_folder import Folder, party_words
 
-# the session of the keys: its peers run to their ends at once, as all ticks are due
+# the session of the keys; its peers end at once, because all ticks are due
 NUMBERS = {"version": 1, "peers": 2, "rounds": 1, "life": 2, "cap": 4, "per_round": 2, "fanout": 1, "tick_ms": 1, "lms": 5, "ots": 3}
 
-# what a file of the program is to its owner alone
+# the mode of files that the program writes: only the owner may read and write them
 OWNERS_ALONE = 0o600
 
 
 def spent_text(fresh: bytes) -> bytes:
-    """The text of a key that is spent, by that of the fresh one."""
+    """Returns the text of the spent key, from that of the fresh one."""
     return fresh.replace(b"spent = false\n", b"spent = true\n")
 
 
 @dataclasses.dataclass(frozen=True)
 class Left:
-    """What a run left of its key, and whether it began its recording, which it does before it binds its link."""
+    """The key file that a run left, and whether the run began its recording, which it does before it binds its link."""
 
     fresh: bytes
     key: bytes
@@ -39,7 +39,7 @@ class Left:
         return self.key == spent_text(self.fresh)
 
     def faults(self) -> Iterator[str]:
-        """What may not be: a key that is neither fresh nor spent, or a fresh one of which something may have been sent."""
+        """Yields what mustn't be: a key that is neither fresh nor spent, or a fresh key with which something may have been sent."""
         if self.key not in (self.fresh, spent_text(self.fresh)):
             yield f"its key file has {len(self.key)} bytes, which are neither the fresh nor the spent key"
         elif self.has_begun and not self.is_spent:
@@ -47,7 +47,7 @@ class Left:
 
 
 class Bench:
-    """A session with fresh keys, of which copies are run."""
+    """A session with fresh keys, and the copies of it that are run."""
 
     def __init__(self, room: pathlib.Path, program: pathlib.Path, port: int) -> None:
         self.room, self.program, self.count = room, program, 0
@@ -58,7 +58,7 @@ class Bench:
         self.fresh = self.folder.key(1).read_bytes()
 
     def copy(self, port: int | None = None) -> Folder:
-        """A copy of the session, with another port where one is named."""
+        """Makes a copy of the session, with another port if one is named. Returns its folder."""
         self.count += 1
         path = self.room / f"copy.{self.count}"
         shutil.copytree(self.folder.path, path)
@@ -71,11 +71,11 @@ class Bench:
     def peer_words(
         self, folder: Folder, begin: int = 0, results: pathlib.Path | None = None, session: pathlib.Path | None = None
     ) -> list[Word]:
-        """The words of peer 1, which ends at once where its session began long ago."""
+        """Returns the command of peer 1, which ends at once if its session began long ago."""
         return party_words(folder, self.program, 1, begin, results, session)
 
     def left(self, folder: Folder) -> Left:
-        """What peer 1 left of its key."""
+        """Returns what peer 1 left of its key."""
         recording = folder.recording(1)
         has_begun = recording.exists() and recording.stat().st_size >= RECORDING_HEAD
         return Left(self.fresh, folder.key(1).read_bytes(), has_begun)
@@ -84,14 +84,14 @@ class Bench:
         return run_words(self.program, words_of(command, **values))
 
     def run_both(self, *commands: Sequence[Word]) -> list[Ran]:
-        """Runs commands at once to their ends."""
+        """Runs two commands at the same time to their ends."""
         pipes = {"stdout": subprocess.PIPE, "stderr": subprocess.PIPE}
         with running(commands[0], **pipes) as one, running(commands[1], **pipes) as two:
             printed = [await_end(process) for process in (one, two)]
         return [Ran(status_of(process), *told) for process, told in zip((one, two), printed)]
 
     def run_killed(self, folder: Folder, seconds: float, is_beside: bool = False) -> None:
-        """Starts peer 1, whose session begins in a minute, and kills it after so many seconds, or as soon as it writes beside its key."""
+        """Starts peer 1 a minute before its session. Kills it after so many seconds, or if `is_beside`, once it writes beside its key."""
         begin, beside = round(1000 * (time.time() + 60)), folder.key(1).with_name(f"{folder.key(1).name}.new")
         with running(self.peer_words(folder, begin), stdout=subprocess.PIPE, stderr=subprocess.PIPE) as process:
             until = time.monotonic() + seconds
@@ -101,7 +101,7 @@ class Bench:
             await_end(process)
 
     def seconds_to_begin(self) -> float:
-        """How long peer 1 takes until its recording is begun."""
+        """Returns how many seconds peer 1 needs until it begins its recording."""
         folder, started = self.copy(), time.monotonic()
         with running(self.peer_words(folder, round(1000 * (time.time() + 60))), stderr=subprocess.PIPE) as process:
             while not self.left(folder).has_begun and process.poll() is None and time.monotonic() < started + 60:
@@ -113,7 +113,7 @@ class Bench:
 
 
 def shared_faults(bench: Bench, is_one_text: bool, ports: int) -> Iterator[str]:
-    """What isn't as it should be of two peers that are started at once with one key, of one text or of texts that differ in the port."""
+    """Yields what is wrong if two peers are started at once with one key. If not `is_one_text`, their texts differ in the port."""
     folder = bench.copy()
     other = folder.session
     if not is_one_text:
@@ -141,9 +141,9 @@ def shared_faults(bench: Bench, is_one_text: bool, ports: int) -> Iterator[str]:
 
 
 def killed_faults(bench: Bench, seconds: float, is_run_again: bool, is_beside: bool = False) -> tuple[bool, list[str]]:
-    """What isn't as it should be of a peer that is killed after so many seconds, or as soon as it writes beside its key.
+    """Kills a peer after so many seconds, or if `is_beside`, once it writes beside its key. If `is_run_again`, runs it again afterwards.
 
-    Returns whether its key is spent, and the faults.
+    Returns whether its key is spent, and what is wrong.
     """
     folder = bench.copy()
     bench.run_killed(folder, seconds, is_beside)
@@ -159,7 +159,7 @@ def killed_faults(bench: Bench, seconds: float, is_run_again: bool, is_beside: b
 
 
 def split(words: list[Word]) -> tuple[Word, list[Word]]:
-    """A program and its words."""
+    """Splits a command into its program and its arguments."""
     return words[0], words[1:]
 
 
@@ -168,7 +168,7 @@ def split(words: list[Word]) -> tuple[Word, list[Word]]:
 
 @dataclasses.dataclass(frozen=True)
 class Over:
-    """A command that would write over a key file: what is told of it, its words and the file."""
+    """A command that would overwrite a key file: its description, its arguments and the file."""
 
     told: str
     words: list[str]
@@ -176,7 +176,7 @@ class Over:
 
 
 def over_keys(bench: Bench, folder: Folder) -> Iterator[Over]:
-    """The commands that would write over a key file."""
+    """Yields the commands that would overwrite a key file."""
     session, other = {"session": folder.session}, folder.key(2)
     secret = folder.path / "secret"
     secret.write_bytes(bytes(range(32)))
@@ -196,7 +196,7 @@ def over_keys(bench: Bench, folder: Folder) -> Iterator[Over]:
 
 
 def over_faults(bench: Bench) -> Iterator[str]:
-    """What isn't as it should be where a command names a key as a file that it writes: it's refused, and the key is as it was."""
+    """Yields what is wrong if a command names a key as a file to write. It has to be refused, and the key has to be unchanged."""
     folder = bench.copy()
     for over in over_keys(bench, folder):
         was = over.path.read_bytes()
@@ -208,7 +208,7 @@ def over_faults(bench: Bench) -> Iterator[str]:
 
 
 def own_key_faults(bench: Bench) -> Iterator[str]:
-    """The same of a peer and a replay that name their own key as the played file: it is the fresh key or the spent one."""
+    """Yields what is wrong if a peer or a replay names its own key as the played file. The key has to be the fresh or the spent one."""
     for command in ("peer", "replay"):
         folder = bench.copy()
         if command == "replay":
@@ -222,7 +222,7 @@ def own_key_faults(bench: Bench) -> Iterator[str]:
 
 
 def name_faults(bench: Bench) -> Iterator[str]:
-    """What isn't as it should be of a key with two names: through a second name nothing is spent, through a link the key itself is."""
+    """Yields what is wrong if a key has two names. With a hard link nothing may be spent; through a symbolic link the key has to be."""
     folder = bench.copy()
     other = folder.path / "other name"
     os.link(folder.key(1), other)
@@ -241,7 +241,7 @@ def name_faults(bench: Bench) -> Iterator[str]:
 
 
 def mode_faults(bench: Bench, mask: int) -> Iterator[str]:
-    """What isn't as it should be of the modes of created files, under this mask."""
+    """Yields what is wrong with the modes of the files that are written under this mask."""
     folder = bench.copy()
     folder.key(1).chmod(0o644)
     secret = folder.path / "secret"

@@ -1,7 +1,7 @@
-"""Memory that is refused to a process, one allocation at a time.
+"""Refuses memory to a process, one allocation at a time.
 
-The program takes its memory by the C library's calls. A small library that is loaded before that counts them, and refuses the one with the
-number asked for; what it counts stands in a file.
+The program allocates its memory with calls of the C library. A small library that is loaded before the C library counts these calls, and
+refuses the one with a given number. The count is kept in a file.
 """
 import dataclasses
 import os
@@ -68,7 +68,7 @@ class Refused:
 
 
 class Refusing:
-    """The library, in a folder."""
+    """The library, compiled in a folder."""
 
     def __init__(self, room: pathlib.Path) -> None:
         self.library = room / "memory.so"
@@ -79,8 +79,8 @@ class Refusing:
             raise Skipped(f"`cc` ends with status {ran.status}: {' '.join(ran.said.decode(errors='replace').split())}")
 
     def run(self, words: Iterable[object], place: pathlib.Path, number: int = 0) -> Refused:
-        """Runs a process to its end, of which the allocation with this number is refused, counted from 1, and with 0 none. What is
-        counted stands in a new file at this place.
+        """Runs a process to its end. Its allocation with this number, counted from 1, is refused; if the number is 0, none is. The
+        count is kept in a new file at `place`.
         """
         place.write_bytes(struct.pack(FORM, number, 0))
         environment = os.environ | {"LD_PRELOAD": str(self.library), "COUNTED_ALLOCATIONS": str(place)}

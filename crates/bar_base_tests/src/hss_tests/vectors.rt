@@ -1,4 +1,4 @@
-//! A key and a signature of two levels by BouncyCastle's HSS, written in hex.
+//! A key and a signature of two levels in hex, made by BouncyCastle's HSS.
 
 /// A public key, and a signature under one of its leaves.
 #[derive(Clone, Copy)]
@@ -9,7 +9,7 @@ pub struct Vector {
     pub signature: &'static str,
 }
 
-/// Both trees have the type 5, and one-time signatures of the type 4.
+/// Both trees have LMS type 5 and one-time signatures of LM-OTS type 4.
 pub const OF_WIDTH_8: Vector = Vector {
     key: "000000020000000500000004d08ecc367d68cfda7b5239410a4b182dde7b\
     45f9565b19defca6b1d2df4a39639d3c3db9de52c07ff464c8a0cc4ebe19",

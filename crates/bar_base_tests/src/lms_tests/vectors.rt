@@ -1,4 +1,4 @@
-//! Keys and signatures by BouncyCastle's LMS, written in hex.
+//! Keys and signatures in hex, made by BouncyCastle's LMS.
 
 /// A key pair and one of its signatures.
 #[derive(Clone, Copy)]

@@ -1,4 +1,4 @@
--- What `audit` does.
+-- The plan of the command `audit`.
 use Rattle.std.specs.Prelude.{◌≡◌, ◌⊎◌, ℕ, suc, ◌-◌, ◌&&◌, Bool, List, [], ◌∷◌, ◌++◌, Option, Result, Ok, Err, codes, map, nat_le}
 use Rattle.std.specs.Bool.{then_some}
 use Rattle.std.specs.List.{AllByRecursion, range_with_len}
@@ -7,7 +7,7 @@ use Rattle.bar_outside.specs.Disk.{Content, Failure}
 use Rattle.bar_outside.specs.declared.files.CallKind.TheVariants.{Read}
 use Rattle.bar_outside.specs.declared.fault.Fault.{Fault}
 use Rattle.bar_outside.specs.Ends.{EndsWith}
-use Rattle.bar_outside.specs.Faults.{code_of_fault, line_of_fault}
+use Rattle.bar_outside.specs.Code.Faults.{code_of_fault, line_of_fault}
 use Rattle.bar_outside.specs.Plan.{Outside, Plan}
 use Rattle.bar_outside.specs.Plan.Action.{show}
 use Rattle.bar_outside.specs.Stages.{Stages, IsAccepted, IsRefused, accepts, plan_by, refuses, stage}
@@ -28,7 +28,7 @@ use Rattle.bar_session_files.specs.Accepting.{HasSession, session_stage}
 use Rattle.bar_cli.specs.Audit.Text.{status_of_balance, text_for}
 use Rattle.bar_cli.specs.Refusals.{parties_refused, recording_refused}
 
--- the session's text, the front of the recordings' names, and the first and the last party whose recordings are read
+-- the session's text, the prefix of the recordings' names, and the first and the last party whose recordings are read
 pub record AuditFiles : Type 0 where
   pub session : List ℕ
   pub results : List ℕ
@@ -41,15 +41,15 @@ pub record AuditFiles : Type 0 where
 abbrev pub recording_name : List ℕ → ℕ → List ℕ
 recording_name results party = named results party ++ codes ".recording"
 
--- the inputs of the recording that bytes spell under a session, as they stand in it, if they spell one of this party; or its first fault
+-- the inputs of this party's recording that the bytes encode under a session, as they are listed there, or its first fault
 unfoldable pub inputs_listed : SessionData → ℕ → List ℕ → Result (List Input) RecordFault
 inputs_listed s party bytes = entries.recording_of s.shape.id party (last_tick s) bytes
 
--- whether the parties are peers of a session of so many, the first not above the last
+-- whether the parties are peers of a session with this many peers, and the first doesn't exceed the last
 abbrev pub is_range : AuditFiles → ℕ → Bool
 is_range names peers = nat_le 1 names.first && nat_le names.first names.last && nat_le names.last peers
 
--- from the first to the last
+-- the parties from the first to the last
 unfoldable pub all_parties : AuditFiles → List ℕ
 all_parties names = range_with_len names.first (suc (names.last - names.first))
 
@@ -57,9 +57,9 @@ all_parties names = range_with_len names.first (suc (names.last - names.first))
 abbrev pub parties_of : AuditFiles → SessionData → Result (List ℕ) (Unit {0})
 parties_of names s = ok_or (then_some (is_range names s.shape.peers) (all_parties names)) tt
 
--- ---- what is told
+-- ---- the report
 
--- the first of the recorded exchanges that isn't balanced
+-- the first recorded exchange that isn't balanced
 unfoldable pub balance_of : SessionData → List Recording → Option Exchange
 balance_of s recordings = unbalanced s recordings (recorded s recordings)
 
@@ -79,19 +79,19 @@ telling_end s recordings = record {
 abbrev pub telling_plan : SessionData → List Recording → Content → Plan
 telling_plan s recordings = plan_by (does (telling_end s recordings))
 
--- after recordings that were accepted that of each of these parties is read, and accepted or refused before the next
+-- after some accepted recordings, the recording of each of these parties is read, and accepted or refused before the next is read
 abbrev pub recordings_stages : List ℕ → SessionData → List ℕ → List Recording → Stages
 recordings_stages results s [] given = does (telling_end s given)
 recordings_stages results s (party ∷ parties) given =
     stage (recording_name results party) (inputs_listed s party) 8 recording_refused
     (λ inputs. recordings_stages results s parties (given ++ (record { party = party; inputs = inputs }) ∷ []))
 
--- the parties are accepted, or refused, before any is read
+-- before any recording is read, the parties are accepted or refused
 abbrev pub parties_stages : AuditFiles → SessionData → Stages
 parties_stages names s =
     accepts (parties_of names s) (λ parties. recordings_stages names.results s parties []) (λ _. refuses 8 parties_refused)
 
--- and the session before
+-- before that the session is read
 abbrev pub audit_stages : AuditFiles → Stages
 audit_stages names = session_stage names.session (parties_stages names)
 
@@ -104,12 +104,12 @@ all_plan names s = plan_by (recordings_stages names.results s (all_parties names
 
 -- ---- how far the recordings were read
 
--- what ends by the rest of a plan from here ends by the whole of it from there
+-- if a command ends by the rest of a plan from here, it ends by the whole plan from there
 abbrev pub Leaves : (Content → Plan) → (Content → Plan) → Outside → Outside → Type 0
 Leaves whole rest old now =
     (new : Outside) (status : ℕ) (line : List ℕ) → EndsWith rest now new status line → EndsWith whole old new status line
 
--- All recordings were accepted and given to an auditor, and what it knows is to be told; or one was refused, or the outside failed.
+-- All recordings were accepted and given to an auditor, whose report is to be printed; or one was refused, or the outside failed.
 abbrev pub ReadsRecordings : AuditFiles → SessionData → Result (Result Audit RecordFault) Fault → Outside → Outside → Type 0
 ReadsRecordings names s (Ok (Ok audit)) old new =
     (recordings : List Recording) × Audits s recordings audit
@@ -121,22 +121,22 @@ ReadsRecordings names s (Err fault) old new =
 
 -- ---- what was accepted, and what was refused
 
--- the recording of its party is there and accepted, and lists these inputs
+-- the recording of its party exists, is accepted, and lists these inputs
 abbrev pub HasRecording : List ℕ → Content → SessionData → Recording → Type 0
 HasRecording results content s r = IsAccepted (recording_name results r.party) (inputs_listed s r.party) content r.inputs
 
--- so are the recordings of these parties, in order
+-- the same for the recordings of these parties, in order
 pub record HasRecordings (results : List ℕ) (content : Content) (s : SessionData) (parties : List ℕ) (recordings : List Recording) : Type 0
   where
     pub order : map (λ (r : Recording). r.party) recordings ≡ parties
     pub each : AllByRecursion (HasRecording results content s) recordings
 
--- the session is accepted, and these are peers of it
+-- the session is accepted, and these parties are peers of it
 pub record HasParties (names : AuditFiles) (content : Content) (s : SessionData) (parties : List ℕ) : Type 0 where
   pub in_session : HasSession names.session content s
   pub are : parties_of names s ≡ Ok parties
 
--- and so are all recordings
+-- all recordings are accepted, too
 pub record AuditAccepted (names : AuditFiles) (content : Content) : Type 0 where
   pub session : SessionData
   pub parties : List ℕ
@@ -144,13 +144,13 @@ pub record AuditAccepted (names : AuditFiles) (content : Content) : Type 0 where
   pub by_parties : HasParties names content session parties
   pub has : HasRecordings names.results content session parties recordings
 
--- the session is accepted, and the parties aren't peers of it, or the first is above the last
+-- the session is accepted, and the parties aren't peers of it, or the first exceeds the last
 pub record HasBadParties (names : AuditFiles) (content : Content) : Type 0 where
   pub session : SessionData
   pub in_session : HasSession names.session content session
   pub is : parties_of names session ≡ Err tt
 
--- the parties are accepted, and so are the recordings of those before this one
+-- the parties are accepted, and so are the recordings of the parties before this one
 pub record IsNextParty (names : AuditFiles) (content : Content) (s : SessionData) (party : ℕ) : Type 0 where
   pub parties : List ℕ
   pub by_parties : HasParties names content s parties
@@ -160,14 +160,14 @@ pub record IsNextParty (names : AuditFiles) (content : Content) (s : SessionData
   pub recordings : List Recording
   pub has : HasRecordings names.results content s before recordings
 
--- so it is, and its recording is there and refused for this fault
+-- this is the next party, and its recording exists and is refused with this fault
 pub record HasBadRecording (names : AuditFiles) (content : Content) (fault : RecordFault) : Type 0 where
   pub session : SessionData
   pub party : ℕ
   pub next : IsNextParty names content session party
   pub in_recording : IsRefused (recording_name names.results party) (inputs_listed session party) content fault
 
--- a call that `audit` makes: it reads its files alone
+-- a call that `audit` makes: it only reads its files
 abbrev pub IsAuditCall : AuditFiles → Failure → Type 0
 IsAuditCall names call =
     (call ≡ record { kind = Read; path = names.session })

@@ -1,4 +1,4 @@
--- What is told of an audit.
+-- The report of an audit.
 use Rattle.std.specs.Prelude.{ℕ, Bool, false, List, ◌++◌, codes, slice_index, slice_index_or, Option, None, Some, if◌then◌else◌}
 use Rattle.std.specs.List.{flat_map}
 use Rattle.std.specs.Fmt.{decimal}
@@ -18,7 +18,7 @@ exchange_words x =
 abbrev pub bit : Bool → ℕ
 bit there = if there then 1 else 0
 
--- how many items the CASE of each side promises, and whether the KEY of each was received
+-- the line of an exchange: how many items the CASE of each side promises, and whether the KEY of each was received
 abbrev pub exchange_line : Line → List ℕ
 exchange_line l =
     codes "exchange "
@@ -36,7 +36,7 @@ line_for s recordings x = exchange_line (line_of s recordings x)
 abbrev pub lines_for : Session → List Recording → List Exchange → List ℕ
 lines_for s recordings xs = flat_map (line_for s recordings) xs
 
--- the first exchange that isn't balanced, or that all are
+-- the first unbalanced exchange, or that all are balanced
 abbrev pub balance_line : Option Exchange → List ℕ
 balance_line None = codes "balanced\n"
 balance_line (Some x) = codes "unbalanced " ++ (exchange_words x ++ codes "\n")
@@ -45,7 +45,7 @@ balance_line (Some x) = codes "unbalanced " ++ (exchange_words x ++ codes "\n")
 unfoldable pub text_for : Session → List Recording → List Exchange → List ℕ
 text_for s recordings xs = lines_for s recordings xs ++ balance_line (unbalanced s recordings xs)
 
--- 0 where all are balanced, 1 where one isn't
+-- 0 if all are balanced, 1 if one isn't
 abbrev pub status_of_balance : Option Exchange → ℕ
 status_of_balance None = 0
 status_of_balance (Some x) = 1

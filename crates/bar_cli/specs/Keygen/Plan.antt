@@ -1,4 +1,4 @@
--- What `keygen` does.
+-- The plan of the command `keygen`.
 use Rattle.std.specs.Prelude.{◌≡◌, ◌≢◌, ◌⊎◌, ◌==◌, ℕ, false, List, [], ◌∷◌, ◌++◌, Option, Some, option_map, Ok, Err, Result, take, length, codes, if◌then◌else◌}
 use Rattle.hex.specs.Hex.{encode_lower}
 use Rattle.bar_lms.specs.declared.params.Height.{Height}
@@ -18,8 +18,8 @@ use Rattle.bar_outside.specs.Stages.{Stages, IsAccepted, IsRefused, accepts, pla
 use Rattle.bar_outside.specs.Stages.Stages.{does}
 use Rattle.bar_cli.specs.Refusals.{session_refused, secret_refused}
 
--- what is asked for: the key of a party in a session with this id, of so many rounds, with signatures of these types, and of two levels where
--- there is a height of the upper tree; the file that holds the secret, and the key file
+-- the requested key: of a party in a session with this id, for this many rounds, with signatures of these types, and with two levels if
+-- there is a height of the upper tree; also the file that contains the secret, and the key file
 pub record Keygen : Type 0 where
   pub party : ℕ
   pub id : List ℕ
@@ -29,11 +29,11 @@ pub record Keygen : Type 0 where
   pub secret : List ℕ
   pub key : List ℕ
 
--- the secret that a file's bytes are, or how many there are instead of 32
+-- the secret in a file's bytes, or their number if it isn't 32
 abbrev pub secret_of : List ℕ → Result (List ℕ) ℕ
 secret_of bytes = if length bytes == 32 then Ok bytes else Err (length bytes)
 
--- what the key file says of a secret, fresh
+-- the data of the fresh key file for a secret
 abbrev pub key_made : Keygen → List ℕ → KeyData
 key_made asked secret =
     any_key_data asked.party asked.id asked.rounds (lms_type asked.params.height) (ots_type asked.params.ots) (option_map lms_type asked.top)
@@ -52,7 +52,7 @@ key_line key = codes "key = \"" ++ (encode_lower key ++ codes "\"\n")
 abbrev pub anchor_line : List ℕ → List ℕ
 anchor_line anchor = codes "anchor = \"" ++ (encode_lower anchor ++ codes "\"\n")
 
--- what a session's text says of a party: its key, and for a peer its anchor
+-- the lines on a party in a session's text: its key and, for a peer, its anchor
 abbrev pub lines_of : Keygen → List ℕ → List ℕ
 lines_of asked secret = key_line (public_of asked secret) ++ (if asked.party == 0 then [] else anchor_line (anchor_for asked secret))
 
@@ -62,7 +62,7 @@ keygen_actions asked secret = create asked.key ∷ append asked.key (key_text_of
 
 -- ---- its stages
 
--- whether there are enough leaves
+-- accepts the number of leaves if there are enough
 abbrev pub leaves_for : Keygen → Result (Unit {0}) SessionFault
 leaves_for asked = enough_leaves asked.rounds (leaves_by asked.top asked.params)
 
@@ -90,34 +90,34 @@ HasFewLeaves asked = (fault : SessionFault) × (leaves_for asked ≡ Err fault)
 abbrev pub HasEnoughLeaves : Keygen → Type 0
 HasEnoughLeaves asked = leaves_for asked ≡ Ok tt
 
--- there is a leaf for each message, and the secret is there and has 32 bytes
+-- there is a leaf for each message, and the secret exists and has 32 bytes
 pub record KeygenAccepted (asked : Keygen) (content : Content) : Type 0 where
   pub secret : List ℕ
   pub leaves : HasEnoughLeaves asked
   pub in_secret : IsAccepted asked.secret secret_of content secret
 
--- there are enough leaves, and the secret is there with so many bytes, which aren't 32
+-- there are enough leaves, and the secret exists and has this many bytes, which isn't 32
 pub record SecretRefused (asked : Keygen) (content : Content) (len : ℕ) : Type 0 where
   pub leaves : HasEnoughLeaves asked
   pub in_secret : IsRefused asked.secret secret_of content len
 
--- ---- what then stands
+-- ---- what then holds
 
--- both were accepted, the key file has exactly the text of the fresh key, and its lines were printed
+-- both were accepted, the key file contains exactly the text of the fresh key, and its lines were printed
 pub record KeyMade (asked : Keygen) (old new : Outside) : Type 0 where
   pub accepted : KeygenAccepted asked old.files.content
   pub written : new.files.content asked.key ≡ Some (key_text_of (key_made asked accepted.secret))
   pub printed : new.out.bytes ≡ old.out.bytes ++ lines_of asked accepted.secret
   pub others : (path : List ℕ) → path ≢ asked.key → new.files.content path ≡ old.files.content path
 
--- both were accepted, the key file has exactly the text of the fresh key, and a front of its lines was printed
+-- both were accepted, the key file contains exactly the text of the fresh key, and a prefix of its lines was printed
 pub record KeyWritten (asked : Keygen) (old new : Outside) : Type 0 where
   pub accepted : KeygenAccepted asked old.files.content
   pub printed_count : ℕ
   pub written : new.files.content asked.key ≡ Some (key_text_of (key_made asked accepted.secret))
   pub printed : new.out.bytes ≡ old.out.bytes ++ take printed_count (lines_of asked accepted.secret)
 
--- both were accepted, the key file has a front of the text, and behind the whole text a front of the lines was printed
+-- both were accepted, the key file contains a prefix of the text, and once it was complete a prefix of the lines was printed
 pub record KeyBegun (asked : Keygen) (old new : Outside) : Type 0 where
   pub accepted : KeygenAccepted asked old.files.content
   pub written_count : ℕ

@@ -1,4 +1,4 @@
--- A peer that is done, and the replay of its recording.
+-- A completed peer run, and the replay of its recording.
 use Rattle.std.specs.Prelude.{◌≡◌, ◌≤◌, ℕ, List, ◌++◌, IfSome, IsSome, IsTrue, Some}
 use Rattle.bar_outside.specs.Disk.{readable}
 use Rattle.bar_outside.specs.Ends.{Ends, UnlessStopped}
@@ -26,7 +26,7 @@ pub record ReadsWhatAPeerLeft (peer : PeerNames) (names : ReplayFiles) (before a
   pub not_large : IsSome (readable old.files.content names.recording)
 
 -- The replay shows exactly what the peer sent, in order, plays the same bytes, and finds the same: the same table, and the same evidence
--- against each party that evidence is kept against.
+-- against each party against which evidence is kept.
 pub record ShowsWhatWasSent (peer : PeerNames) (names : ReplayFiles) (before after old new : Outside) : Type 0 where
   pub session : SessionData
   pub secrets : Secrets
@@ -41,7 +41,7 @@ pub record ShowsWhatWasSent (peer : PeerNames) (names : ReplayFiles) (before aft
       (after.files.content (evidence_name peer.found party) ≡ Some kept)
       × (new.files.content (evidence_name names.found party) ≡ Some kept))
 
--- A replay of what a peer left that is done ends with 0, but for a fault or want of memory, and then it shows what was sent.
+-- A replay of what a completed peer run left ends with 0, unless a fault or running out of memory stops it. Then it shows what was sent.
 abbrev pub IsReplayed : Type 0
 IsReplayed =
     (peer : PeerNames) (names : ReplayFiles) (before after old new : Outside) (status : ℕ) → PeerDone peer before after →

@@ -1,4 +1,4 @@
--- What `replay` does.
+-- The plan of the command `replay`, and what holds after it.
 use Rattle.std.specs.Prelude.{◌≡◌, ◌≢◌, ◌⊎◌, ◌≤◌, ℕ, List, [], ◌∷◌, ◌++◌, Some, IfSome, take}
 use Rattle.std.specs.List.{AllByRecursion, concat}
 use Rattle.bar_outside.specs.Disk.{Content, Failure}
@@ -24,7 +24,7 @@ use Rattle.bar_cli.specs.Replay.Found.{evidence_of, found_by, manifest_of}
 use Rattle.bar_session_files.specs.Accepting.{HasSession, key_stage, secrets_of_key, session_stage}
 use Rattle.bar_cli.specs.Replay.Recordings.{recording_of}
 use Rattle.bar_cli.specs.Replay.Transcript.{transcript}
-use Rattle.bar_cli.specs.Replay.Turns.{Turn, turns_from, turns_actions, played_bytes, shown_bytes}
+use Rattle.bar_cli.specs.Code.Turns.{Turn, turns_from, turns_actions, played_bytes, shown_bytes}
 
 -- the files of a replay
 pub record ReplayFiles : Type 0 where
@@ -38,7 +38,7 @@ pub record ReplayFiles : Type 0 where
 abbrev pub playing_actions : List ℕ → List Turn → List Action
 playing_actions played turns = create played ∷ turns_actions played turns
 
--- and then what was found is written
+-- afterwards what was found is written
 abbrev pub replay_actions : ReplayFiles → List Turn → List Finding → List Action
 replay_actions names turns findings = playing_actions names.played turns ++ findings_actions findings
 
@@ -60,11 +60,11 @@ abbrev pub recording_stages : ReplayFiles → SessionData → Secrets → Stages
 recording_stages names session secrets =
     stage names.recording (recording_of session secrets.party) 8 recording_refused (λ inputs. does (run_end names session secrets inputs))
 
--- the key file before it
+-- before that the key file is read
 abbrev pub key_stages : ReplayFiles → SessionData → Stages
 key_stages names session = key_stage names.key session (recording_stages names session)
 
--- and the session before both
+-- before both the session is read
 abbrev pub replay_stages : ReplayFiles → Stages
 replay_stages names = session_stage names.session (key_stages names)
 
@@ -73,12 +73,12 @@ replay_plan names = plan_by (replay_stages names)
 
 -- ---- what was accepted, and what was refused
 
--- the session is accepted, and so is the key file, which holds these secrets
+-- the session and the key file are accepted, and the key file contains these secrets
 pub record KeyAccepted (names : ReplayFiles) (content : Content) (session : SessionData) (secrets : Secrets) : Type 0 where
   pub in_session : HasSession names.session content session
   pub in_key : IsAccepted names.key (secrets_of_key session) content secrets
 
--- and so is the recording, which holds these inputs, paced
+-- the recording is accepted, too, and contains these inputs, paced
 pub record Accepted (names : ReplayFiles) (content : Content) : Type 0 where
   pub session : SessionData
   pub secrets : Secrets
@@ -86,20 +86,20 @@ pub record Accepted (names : ReplayFiles) (content : Content) : Type 0 where
   pub by_key : KeyAccepted names content session secrets
   pub in_recording : IsAccepted names.recording (recording_of session secrets.party) content inputs
 
--- the session is accepted, and the key file is there and refused for this fault
+-- the session is accepted, and the key file exists and is refused with this fault
 pub record KeyRefused (names : ReplayFiles) (content : Content) (session : SessionData) (fault : KeyFileFault) : Type 0 where
   pub in_session : HasSession names.session content session
   pub in_key : IsRefused names.key (secrets_of_key session) content fault
 
--- both are accepted, and the recording is there and refused for this fault
+-- both are accepted, and the recording exists and is refused with this fault
 pub record InputRefused (names : ReplayFiles) (content : Content) (session : SessionData) (secrets : Secrets) (fault : RecordFault) : Type 0
   where
     pub by_key : KeyAccepted names content session secrets
     pub in_recording : IsRefused names.recording (recording_of session secrets.party) content fault
 
--- ---- what then stands
+-- ---- what then holds
 
--- the peer whose key it is
+-- the peer with this key
 abbrev pub peer_of : (names : ReplayFiles) (content : Content) → Accepted names content → Member
 peer_of names content accepted = member_by accepted.session accepted.secrets
 
@@ -120,10 +120,10 @@ pub record HasOwnNames (names : ReplayFiles) : Type 0 where
   pub table : names.played ≢ table_name names.found
   pub evidence : (party : ℕ) → names.played ≢ evidence_name names.found party
 
--- All were accepted, the session holds the public key and the anchor that come from the key file's secret, and over the recording's inputs
--- the played file has exactly what the rules of this peer play, and the transcript exactly what they send, in order. The table file has
--- exactly the manifests that the peer admitted, by round, and each party that it keeps evidence against has a file with exactly this
--- evidence. No other file is changed.
+-- Everything was accepted, and the session contains the public key and the anchor derived from the key file's secret. Over the recording's
+-- inputs the played file contains exactly what the rules of this peer play, and the transcript exactly what they send, in order. The table
+-- file contains exactly the manifests that the peer admitted, by round. Each party against which it keeps evidence has a file with exactly
+-- this evidence. No other file is changed.
 pub record Replayed (names : ReplayFiles) (old new : Outside) : Type 0 where
   pub accepted : Accepted names old.files.content
   pub fits : Fits accepted.session accepted.secrets.party accepted.secrets.secret
@@ -138,7 +138,8 @@ pub record Replayed (names : ReplayFiles) (old new : Outside) : Type 0 where
   pub others : (path : List ℕ) → path ≢ names.played → AllByRecursion (λ f. f.name ≢ path) (found_in names old.files.content accepted) →
       new.files.content path ≡ old.files.content path
 
--- all were accepted, and the played file has a front of what the rules of this peer play, and the transcript a front of what they send
+-- everything was accepted; the played file contains a prefix of what the rules of this peer play, and the transcript a prefix of what they
+-- send
 pub record PlayedFront (names : ReplayFiles) (old new : Outside) : Type 0 where
   pub accepted : Accepted names old.files.content
   pub played_count : ℕ
@@ -147,25 +148,25 @@ pub record PlayedFront (names : ReplayFiles) (old new : Outside) : Type 0 where
       new.files.content names.played ≡ Some (take played_count (played_by (peer_of names old.files.content accepted) accepted.inputs))
   pub shown : new.out.bytes ≡ old.out.bytes ++ take shown_count (transcript_of names old.files.content accepted)
 
--- no file holds anything else than before, and nothing was printed
+-- the content of every file is unchanged, and nothing was printed
 pub record ChangesNothing (old new : Outside) : Type 0 where
   pub files : SameFiles old new
   pub out : NothingPrinted old new
 
--- no file but the played one was changed
+-- no file except the played one was changed
 abbrev pub OthersAreSame : ReplayFiles → Outside → Outside → Type 0
 OthersAreSame names old new = (path : List ℕ) → path ≢ names.played → new.files.content path ≡ old.files.content path
 
--- the played file was made and is empty, no other was changed, and nothing was printed
+-- the played file was created and is empty, no other file was changed, and nothing was printed
 pub record IsMade (names : ReplayFiles) (old new : Outside) : Type 0 where
   pub played : new.files.content names.played ≡ Some []
   pub out : NothingPrinted old new
   pub others : OthersAreSame names old new
 
--- All were accepted, and there is one input such that the played file has all that earlier inputs play and a front of what this one plays,
--- and the transcript all that earlier inputs send and a front of what this one sends. What is shown of an input comes behind all that it
--- plays. Where a call of the files failed, nothing is shown of it, and where a write failed, all that it plays stands. Nothing that was
--- found is written yet.
+-- Everything was accepted, and there is one input such that the played file contains what earlier inputs play and a prefix of what this one
+-- plays. The transcript contains what earlier inputs send and a prefix of what this one sends. What an input sends is shown after
+-- everything that it plays. If a call of the files failed, nothing is shown for this input. If a write to the output failed, everything
+-- that it plays was written. Nothing that was found has been written yet.
 pub record PlayedUpTo (names : ReplayFiles) (status : ℕ) (old new : Outside) : Type 0 where
   pub accepted : Accepted names old.files.content
   pub earlier : List Turn
@@ -181,8 +182,8 @@ pub record PlayedUpTo (names : ReplayFiles) (status : ℕ) (old new : Outside) :
   pub at_output : status ≡ 7 → take played_count (concat this.contents) ≡ concat this.contents
   pub others : OthersAreSame names old new
 
--- All were accepted, all that the inputs play and send stands, and what was found behind them is written so far: the earlier files whole, a
--- front of one, and the later ones as they were. No write failed.
+-- Everything was accepted, and everything that the inputs play and send was written. What was found after them is written up to some point:
+-- the earlier files whole, a prefix of one, and the later ones unchanged. No write to the output failed.
 pub record FoundUpTo (names : ReplayFiles) (status : ℕ) (old new : Outside) : Type 0 where
   pub accepted : Accepted names old.files.content
   pub played : HasOwnNames names →
@@ -191,7 +192,7 @@ pub record FoundUpTo (names : ReplayFiles) (status : ℕ) (old new : Outside) : 
   pub found : HasOwnNames names → IsWrittenUpTo (found_in names old.files.content accepted) old.files.content new.files.content
   pub no_output : status ≢ 7
 
--- a call that a replay makes: a read of a file that it reads, or a create or an append of the played one, or of one of what was found
+-- a call that a replay makes: a read of one of its inputs, or a create or an append of the played file or of a file of what was found
 abbrev pub IsReplayCall : ReplayFiles → Failure → Type 0
 IsReplayCall names call =
     ((call ≡ record { kind = Read; path = names.session })

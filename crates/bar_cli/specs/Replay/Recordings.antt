@@ -1,4 +1,4 @@
--- What a recording spells for a replay.
+-- The inputs that a recording encodes for a replay.
 use Rattle.std.specs.Prelude.{ℕ, List, Result}
 use Rattle.std.specs.Result.{result_map_both}
 use Rattle.bar_wire.specs.Inputs.{Input}
@@ -8,7 +8,7 @@ use Rattle.bar_record.specs.Recording as entries
 use Rattle.bar_record.specs.declared.fault.RecordFault.{RecordFault}
 use Rattle.bar_session.specs.Time.{last_tick}
 
--- the inputs of the recording that bytes spell under a session, paced, if they spell one of this party; or its first fault
+-- the inputs of this party's recording that the bytes encode under a session, paced, or its first fault
 unfoldable pub recording_of : SessionData → ℕ → List ℕ → Result (List Input) RecordFault
 recording_of s party bytes =
     result_map_both (paced (last_tick s)) (λ fault. fault) (entries.recording_of s.shape.id party (last_tick s) bytes)

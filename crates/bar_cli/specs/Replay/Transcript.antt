@@ -7,7 +7,7 @@ use Rattle.bar_wire.specs.Datagram.{Datagram}
 use Rattle.bar_rules.specs.Member.{Session}
 use Rattle.bar_rules.specs.Values.{datagram_bytes}
 
--- the number of an input and a receiver, each with a blank behind it, then bytes in hex, and a newline
+-- the number of an input and a receiver, each followed by a blank, then the bytes in hex, and a newline
 abbrev pub line_of_bytes : ℕ → ℕ → List ℕ → List ℕ
 line_of_bytes number to bytes = decimal number ++ (32 ∷ (decimal to ++ (32 ∷ (encode_lower bytes ++ 10 ∷ []))))
 

@@ -1,8 +1,8 @@
-//! What each exit status of `audit` means, and what then stands.
+//! What each exit status of `audit` means, and what then holds.
 ghost use Rattle.std.specs.Prelude.{IsTrue, ◌≡◌, ◌⊎◌, ℕ, [], None, Some, IsSomeAnd, true};
-ghost use Rattle.bar_outside.specs.Causes.{Rose};
+ghost use Rattle.bar_outside.specs.Code.Causes.{Rose};
 ghost use Rattle.bar_outside.specs.Disk.{Content, readable};
-ghost use Rattle.bar_outside.specs.Follows.{IsReliable};
+ghost use Rattle.bar_outside.specs.Code.Follows.{IsReliable};
 ghost use Rattle.bar_outside.specs.Plan.{Outside, is_stop, line_at};
 ghost use Rattle.bar_outside.specs.Ends.{Ends, OfEachEnd, AtEnd, UnlessStopped, NothingPrinted};
 ghost use Rattle.bar_window.specs.declared.exchange.Exchange.{Exchange};
@@ -18,8 +18,9 @@ ghost use Rattle.bar_cli.specs.Refusals.{parties_refused, recording_refused, ses
 use bar_audit::laws::{keys_are_paid, recorded_exchanges_are_one_list, runs_are_balanced};
 use bar_outside::stages_go_in_order;
 
-/// Where all files are accepted, the status is 0 exactly where all recorded exchanges are balanced, and 1 exactly where one isn't, but for
-/// a fault of the outside or want of memory; and these come only there. Then the lines were printed, and nothing on standard error.
+/// If all files are accepted, the status is 0 if all recorded exchanges are balanced and 1 if one isn't, unless a fault of the outside or
+/// running out of memory stops the audit. 0 and 1 are returned only in these cases. Then the lines were printed, and nothing was printed on
+/// standard error.
 pub fn an_audit_is_told()
     ensures balanced { (names : AuditFiles) → AtEnd 0 (audit_plan names) (Audited names None) }
     ensures unbalanced { (names : AuditFiles) → AtEnd 1 (audit_plan names) (λ old new. (x : Exchange) × Audited names (Some x) old new) }
@@ -34,8 +35,8 @@ pub fn an_audit_is_told()
     stages_go_in_order();
 }
 
-/// Where all files are accepted and no count rose, the status is that of the balance, but for want of memory. So it is where nothing fails
-/// by itself.
+/// If all files are accepted and no fault count rose, the status is that of the balance, unless memory runs out. The same holds if the
+/// outside is reliable.
 pub fn an_audit_is_told_where_all_is_accepted()
     ensures without_faults { (names : AuditFiles) → OfEachEnd (audit_plan names) (λ old new status.
         (accepted : AuditAccepted names old.files.content) →
@@ -48,8 +49,9 @@ pub fn an_audit_is_told_where_all_is_accepted()
     stages_go_in_order();
 }
 
-/// 3 comes only where the files' count rose, and where they tell, by a read of the session or of a recording; 7 only where the count of the
-/// output rose, and where the files tell, only after all were accepted. A file that isn't there or is too large stops it.
+/// 3 is returned only if the fault count of the files rose; if the reads agree with the content, a read of the session or of a recording
+/// failed. 7 is returned only if the fault count of the output rose; if the reads agree, everything was accepted before. A file that
+/// doesn't exist or is too large stops the audit.
 pub fn an_audit_fails_only()
     ensures file { (names : AuditFiles) (old new : Outside) → Ends (audit_plan names) old new 3 → Rose old.files.faults new.files.faults }
     ensures named { (names : AuditFiles) → AtEnd 3 (audit_plan names) (λ old new. IsSomeAnd new.files.failed (IsAuditCall names)) }
@@ -64,7 +66,8 @@ pub fn an_audit_fails_only()
     stages_go_in_order();
 }
 
-/// 4 comes exactly where the session is there and refused, but for a fault or want of memory; its line has the first fault.
+/// 4 is returned if and only if the session exists and is refused, unless a fault or running out of memory stops the audit. Its line
+/// contains the first fault.
 pub fn an_audit_refuses_a_bad_session()
     ensures only { (names : AuditFiles) → AtEnd 4 (audit_plan names) (λ old new.
         (fault : SessionFault) × HasBadSession names.session old.files.content fault) }
@@ -76,9 +79,9 @@ pub fn an_audit_refuses_a_bad_session()
     stages_go_in_order();
 }
 
-/// 8 comes exactly where the session is accepted and the parties aren't peers of it, or the first is above the last; or they are, and a
-/// recording is there and refused, and those of the parties before it are accepted; but for a fault or want of memory. Its line names the
-/// parties, or has the recording's first fault.
+/// Unless a fault or running out of memory stops the audit, 8 is returned in exactly two cases. The session is accepted, but the parties
+/// aren't peers of it or the first exceeds the last; or a recording exists and is refused, and those of the parties before it are accepted.
+/// The line names the parties, or contains the recording's first fault.
 pub fn an_audit_refuses_bad_parties_and_recordings()
     ensures only { (names : AuditFiles) → AtEnd 8 (audit_plan names) (λ old new.
         HasBadParties names old.files.content ⊎ ((fault : RecordFault) × HasBadRecording names old.files.content fault)) }
@@ -94,7 +97,7 @@ pub fn an_audit_refuses_bad_parties_and_recordings()
     stages_go_in_order();
 }
 
-/// Whatever the status, no file is changed, and no exchange of obedient parties is called unbalanced; after a refusal nothing was printed.
+/// At every status, no file is changed, and no exchange of obedient parties is reported as unbalanced. After a refusal nothing was printed.
 pub fn an_audit_stays()
     ensures stays { (names : AuditFiles) → OfEachEnd (audit_plan names) (AuditStays names) }
     ensures session { (names : AuditFiles) → AtEnd 4 (audit_plan names) NothingPrinted }
@@ -105,7 +108,7 @@ pub fn an_audit_stays()
     stages_go_in_order();
 }
 
-/// Whatever the status, nothing was printed, or all was accepted and a front of what is told was.
+/// At every status, nothing was printed, or everything was accepted and a prefix of the report was printed.
 pub fn a_front_of_an_audit_is_printed()
     ensures { (names : AuditFiles) → OfEachEnd (audit_plan names) (λ old new status. NothingPrinted old new ⊎ AuditedFront names old new) }
 {

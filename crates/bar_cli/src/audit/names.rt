@@ -1,6 +1,6 @@
-//! What `audit` is asked for.
+//! The arguments of `audit`.
 
-/// The session's text, the front of the recordings' names, and the first and the last party whose recordings are read.
+/// The session's text, the prefix of the recordings' names, and the first and the last party whose recordings are read.
 #[derive(Clone, Copy, Debug)]
 pub struct AuditNames<'a> {
     pub session: &'a str,

@@ -2,11 +2,11 @@
 ghost use Rattle.std.specs.Prelude.{◌≡◌, ◌<◌, ◌≤◌, ◌++◌, ◌∷◌, [], List, IfOk, string_bytes};
 ghost use Rattle.bar_outside.specs.Disk.{Content};
 ghost use Rattle.bar_outside.specs.Plan.{Outside, with_files};
-ghost use Rattle.bar_record.specs.Inputs.{inputs_left};
+ghost use Rattle.bar_record.specs.Code.Inputs.{inputs_left};
 ghost use Rattle.bar_audit.specs.Audits.{Audits};
 ghost use Rattle.bar_audit.specs.Recordings.{Recording};
 ghost use Rattle.bar_cli.specs.Audit.Plan.{ReadsRecordings, recording_name};
-ghost use Rattle.bar_cli.specs.Views.{audit_view};
+ghost use Rattle.bar_cli.specs.Code.Views.{audit_view};
 
 use crate::audit::names::AuditNames;
 use crate::reading::read_recording;
@@ -43,7 +43,7 @@ fn add_counted<L: Ledger>(
     )
 }
 
-/// An auditor that was given the recording of one party more, with a count of steps that nobody reads.
+/// The auditor with the recording of one more party. The number of steps is counted but not used.
 fn add_recording(
     audit: Audit,
     session: &Session,
@@ -63,8 +63,8 @@ fn recording_name(alloc: Global, results: &str, party: u16) -> Result<String, Al
     format!(in alloc; "{results}.{party}.recording")
 }
 
-/// An auditor that was given the recordings of the parties in order, each of which is accepted before the next is read; or the first fault
-/// of the first that is refused.
+/// An auditor with the recordings of all parties, in order. Each recording is accepted before the next is read; the first one that is
+/// refused gives its first fault.
 pub fn read_recordings<F: Files>(
     alloc: Global,
     session: &Session,
@@ -85,7 +85,7 @@ pub fn read_recordings<F: Files>(
             Ok(items) => items,
             Err(fault) => return Ok(Err(fault)),
         };
-        // No party is added twice, so that memory is what is wanting.
+        // No party is added twice, so the failure is that memory ran out.
         let Ok(more) = add_recording(audit, session, party, items) else {
             return Err(Fault::NoMemory);
         };

@@ -1,4 +1,4 @@
-//! What is told of an audit.
+//! The report of an audit.
 ghost use Rattle.std.specs.Prelude.{◌≡◌, List, IfOk, string_bytes};
 ghost use Rattle.bar_rules.specs.Member.{Session};
 ghost use Rattle.bar_audit.specs.Audits.{Audits};
@@ -23,7 +23,7 @@ fn exchange_words(alloc: Global, x: Exchange) -> Result<String, AllocError>
     format!(in alloc; "{round} {kind} {initiator} {responder}")
 }
 
-/// How many items the CASE of each side promises, and whether the KEY of each was received.
+/// The line of an exchange: how many items the CASE of each side promises, and whether the KEY of each was received.
 fn exchange_line(alloc: Global, line: Line) -> Result<String, AllocError>
     ensures { IfOk result (λ text. string_bytes text ≡ exchange_line line) }
 {
@@ -51,7 +51,7 @@ fn exchange_lines(alloc: Global, audit: &Audit) -> Result<String, AllocError>
     Ok(text)
 }
 
-/// The first exchange that isn't balanced, or that all are.
+/// The line that names the first unbalanced exchange, or says that all are balanced.
 fn balance_line(alloc: Global, unbalanced: Option<Exchange>) -> Result<String, AllocError>
     ensures { IfOk result (λ text. string_bytes text ≡ balance_line unbalanced) }
 {

@@ -1,10 +1,10 @@
-//! What a table file says, and the verdict on evidence, with a count of steps that nobody reads.
+//! The meaning of a table file and the verdict on evidence. Steps are counted, but the count isn't used.
 ghost use Rattle.std.specs.Prelude.{◌≡◌, ◌⊎◌, ◌<◌, Err, IfOk, IfErr};
 ghost use Rattle.bar_terms.specs.Table.{digests_of};
 ghost use Rattle.bar_wire.specs.Evidence.{datagrams_of};
 ghost use Rattle.bar_rules.specs.Judge.Verdict.{verdict};
 ghost use Rattle.bar_judge.specs.TableFile.{HasLists, table_of};
-ghost use Rattle.bar_judge.specs.Verdicts.{plain_verdict};
+ghost use Rattle.bar_judge.specs.Code.Verdicts.{plain_verdict};
 ghost use Rattle.bar_cli.specs.Judge.Judging.{IsTableOf, lists_of, place_of};
 
 use crate::verifier::verifier_of;
@@ -39,7 +39,7 @@ fn read_counted<L: Ledger>(
     )
 }
 
-/// The table of a file under a session.
+/// The table that a file encodes under a session.
 #[tactic(auto, unfolding(crate::specs::Judge::Judging::lists_of))]
 pub fn read_lists(alloc: Global, bytes: &[u8], session: &Session) -> Result<Table, TableFault>
     ensures ok { IfOk result (λ table. IsTableOf session.now bytes.now (digests_of table.lists)) }
@@ -69,7 +69,7 @@ fn judge_counted<L: Ledger>(
     )
 }
 
-/// What the rules say of evidence.
+/// The verdict of the rules on evidence.
 pub fn judge_evidence(session: &Session, table: &Table, evidence: &EvidenceView<'_>) -> Verdict
     ensures { plain_verdict result ≡ verdict session.now (digests_of table.now.lists) (datagrams_of evidence.now) }
 {

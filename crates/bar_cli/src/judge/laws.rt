@@ -1,8 +1,8 @@
-//! What each exit status of `judge` means, and what then stands.
+//! What each exit status of `judge` means, and what then holds.
 ghost use Rattle.std.specs.Prelude.{IsTrue, ◌≡◌, ◌⊎◌, ℕ, [], None, IsSomeAnd, true};
-ghost use Rattle.bar_outside.specs.Causes.{Rose};
+ghost use Rattle.bar_outside.specs.Code.Causes.{Rose};
 ghost use Rattle.bar_outside.specs.Disk.{Content, readable};
-ghost use Rattle.bar_outside.specs.Follows.{IsReliable};
+ghost use Rattle.bar_outside.specs.Code.Follows.{IsReliable};
 ghost use Rattle.bar_outside.specs.Plan.{Outside, is_stop, line_at};
 ghost use Rattle.bar_outside.specs.Ends.{Ends, OfEachEnd, AtEnd, UnlessStopped, SameFiles, NothingPrinted};
 ghost use Rattle.bar_terms.specs.Table.{Lists};
@@ -16,8 +16,9 @@ ghost use Rattle.bar_cli.specs.Judge.Plan.{JudgeFiles, HasTable, JudgeAccepted, 
 
 use bar_outside::stages_go_in_order;
 
-/// Where all files are accepted, the status is 0 exactly where the rules show a fault, and 1 exactly where they show none, but for a fault
-/// of the outside or want of memory; and these come only there. Then the line of the verdict was printed, and nothing on standard error.
+/// If all files are accepted, the status is 0 if the rules show a fault and 1 if they show none, unless a fault of the outside or running
+/// out of memory stops the command. 0 and 1 are returned only in these cases. Then the line of the verdict was printed, and nothing was
+/// printed on standard error.
 pub fn the_verdict_is_printed()
     ensures shown { (names : JudgeFiles) → AtEnd 0 (judge_plan names) (λ old new.
         (party : ℕ) × (fault : Fault) × Judged names (Shown party fault) old new) }
@@ -31,8 +32,8 @@ pub fn the_verdict_is_printed()
     stages_go_in_order();
 }
 
-/// Where all files are accepted and no count rose, the status is that of the verdict, but for want of memory. So it is where nothing fails
-/// by itself.
+/// If all files are accepted and no fault count rose, the status is that of the verdict, unless memory runs out. The same holds if the
+/// outside is reliable.
 pub fn the_verdict_is_printed_where_all_is_accepted()
     ensures without_faults { (names : JudgeFiles) → OfEachEnd (judge_plan names) (λ old new status.
         (accepted : JudgeAccepted names old.files.content) →
@@ -43,8 +44,9 @@ pub fn the_verdict_is_printed_where_all_is_accepted()
         (status ≡ status_of_verdict (verdict_in names old.files.content accepted)) ⊎ (status ≡ 70) }
 {}
 
-/// 3 comes only where the files' count rose, and where they tell, by a read of one of the three files; 7 only where the count of the output
-/// rose, and where the files tell, only after all were accepted. A file that isn't there or is too large stops it.
+/// 3 is returned only if the fault count of the files rose; if the reads agree with the content, a read of one of the three files failed. 7
+/// is returned only if the fault count of the output rose; if the reads agree, everything was accepted before. A file that doesn't exist or
+/// is too large stops the command.
 pub fn a_judge_fails_only()
     ensures file { (names : JudgeFiles) (old new : Outside) → Ends (judge_plan names) old new 3 → Rose old.files.faults new.files.faults }
     ensures named { (names : JudgeFiles) → AtEnd 3 (judge_plan names) (λ old new. IsSomeAnd new.files.failed (IsJudgeCall names)) }
@@ -60,7 +62,8 @@ pub fn a_judge_fails_only()
     stages_go_in_order();
 }
 
-/// 4 comes exactly where the session is there and refused, but for a fault or want of memory; its line has the first fault.
+/// 4 is returned if and only if the session exists and is refused, unless a fault or running out of memory stops the command. Its line
+/// contains the first fault.
 pub fn a_bad_session_is_refused()
     ensures only { (names : JudgeFiles) → AtEnd 4 (judge_plan names) (λ old new.
         (fault : SessionFault) × HasBadSession names.session old.files.content fault) }
@@ -72,8 +75,9 @@ pub fn a_bad_session_is_refused()
     stages_go_in_order();
 }
 
-/// 8 comes exactly where the session is accepted and the table is there and refused, or both are accepted and the evidence is there and
-/// refused, but for a fault or want of memory; its line has the place of the table's bad entry, or names the evidence.
+/// Unless a fault or running out of memory stops the command, 8 is returned in exactly two cases. The session is accepted, and the table
+/// exists and is refused; or both are accepted, and the evidence exists and is refused. The line contains the place of the table's bad
+/// entry, or names the evidence.
 pub fn a_bad_table_or_evidence_is_refused()
     ensures only { (names : JudgeFiles) → AtEnd 8 (judge_plan names) (λ old new.
         ((at : ℕ) × HasBadTable names old.files.content at) ⊎ HasBadEvidence names old.files.content) }
@@ -89,7 +93,7 @@ pub fn a_bad_table_or_evidence_is_refused()
     stages_go_in_order();
 }
 
-/// Whatever the status, no file is changed; after a refusal nothing was printed.
+/// At every status, no file is changed. After a refusal nothing was printed.
 pub fn a_judge_changes_nothing()
     ensures files { (names : JudgeFiles) → OfEachEnd (judge_plan names) (λ old new status. SameFiles old new) }
     ensures session { (names : JudgeFiles) → AtEnd 4 (judge_plan names) NothingPrinted }
@@ -98,7 +102,7 @@ pub fn a_judge_changes_nothing()
     stages_go_in_order();
 }
 
-/// Whatever the status, nothing was printed, or all was accepted and a front of the verdict's line was.
+/// At every status, nothing was printed, or everything was accepted and a prefix of the verdict's line was printed.
 pub fn a_front_of_the_verdict_is_printed()
     ensures { (names : JudgeFiles) → OfEachEnd (judge_plan names) (λ old new status. NothingPrinted old new ⊎ JudgedFront names old new) }
 {

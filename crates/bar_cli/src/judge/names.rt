@@ -1,4 +1,4 @@
-//! What `judge` is asked for.
+//! The arguments of `judge`.
 
 /// The files of a judge.
 #[derive(Clone, Copy, Debug)]

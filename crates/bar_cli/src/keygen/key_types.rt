@@ -3,7 +3,7 @@ ghost use Rattle.bar_session.specs.Sessions.{AreLevels};
 
 use bar_lms::{Height, Params};
 
-/// The types of the trees that sign messages, and the height of the upper tree, where there are two levels.
+/// The types of the trees that sign messages, and the height of the upper tree if there are two levels.
 #[derive(Clone, Copy, Debug)]
 pub struct KeyTypes {
     pub top: Option<Height>,

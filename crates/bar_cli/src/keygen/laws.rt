@@ -1,8 +1,8 @@
-//! What each exit status of `keygen` means, and what then stands.
+//! What each exit status of `keygen` means, and what then holds.
 ghost use Rattle.std.specs.Prelude.{IsTrue, ◌≡◌, ◌≢◌, ◌⊎◌, ℕ, List, [], None, Err, IsSomeAnd, true};
-ghost use Rattle.bar_outside.specs.Causes.{Rose};
+ghost use Rattle.bar_outside.specs.Code.Causes.{Rose};
 ghost use Rattle.bar_outside.specs.Disk.{Content, readable};
-ghost use Rattle.bar_outside.specs.Follows.{IsReliable};
+ghost use Rattle.bar_outside.specs.Code.Follows.{IsReliable};
 ghost use Rattle.bar_outside.specs.Plan.{Outside, is_stop, line_at};
 ghost use Rattle.bar_outside.specs.Ends.{Ends, OfEachEnd, AtEnd, UnlessStopped, SameFiles, NothingPrinted};
 ghost use Rattle.bar_roster.specs.declared.fault.SessionFault.{SessionFault};
@@ -11,7 +11,8 @@ ghost use Rattle.bar_cli.specs.Keygen.Plan.{Keygen, KeygenAccepted, KeyMade, Key
 
 use bar_outside::stages_go_in_order;
 
-/// 0 comes exactly where there are enough leaves and the secret is accepted, but for a fault or want of memory; then the key was made.
+/// 0 is returned if and only if there are enough leaves and the secret is accepted, unless a fault or running out of memory stops the
+/// command. Then the key was made.
 pub fn key_made_exactly()
     ensures only { (asked : Keygen) → AtEnd 0 (keygen_plan asked) (KeyMade asked) }
     ensures then { (asked : Keygen) → OfEachEnd (keygen_plan asked) (λ old new status.
@@ -21,7 +22,7 @@ pub fn key_made_exactly()
     stages_go_in_order();
 }
 
-/// Where all is accepted and no count rose, the status is 0, but for want of memory. So it is where nothing fails by itself.
+/// If everything is accepted and no fault count rose, the status is 0, unless memory runs out. The same holds if the outside is reliable.
 pub fn key_made_where_all_is_accepted()
     ensures without_faults { (asked : Keygen) → OfEachEnd (keygen_plan asked) (λ old new status.
         KeygenAccepted asked old.files.content → (Rose old.files.faults new.files.faults → ⊥) → (Rose old.out.faults new.out.faults → ⊥) →
@@ -30,8 +31,8 @@ pub fn key_made_where_all_is_accepted()
         KeygenAccepted asked old.files.content → (status ≡ 0) ⊎ (status ≡ 70) }
 {}
 
-/// 3 comes only where the files' count rose, and where they tell, by a call that `keygen` makes; 7 only where the count of the output rose.
-/// A secret that isn't there or is too large stops it.
+/// 3 is returned only if the fault count of the files rose; if the reads agree with the content, a call that `keygen` makes failed. 7 is
+/// returned only if the fault count of the output rose. A secret that doesn't exist or is too large stops the command.
 pub fn keygen_failed_only()
     ensures file { (asked : Keygen) (old new : Outside) → Ends (keygen_plan asked) old new 3 → Rose old.files.faults new.files.faults }
     ensures named { (asked : Keygen) → AtEnd 3 (keygen_plan asked) (λ old new. IsSomeAnd new.files.failed (IsKeygenCall asked)) }
@@ -42,15 +43,16 @@ pub fn keygen_failed_only()
     stages_go_in_order();
 }
 
-/// 7 comes only behind the key file: where the files tell, it has its whole text, and a front of the lines was printed.
+/// 7 is returned only after the key file was written: if the reads agree with the content, it contains its whole text, and a prefix of the
+/// lines was printed.
 pub fn output_fails_behind_the_key()
     ensures { (asked : Keygen) → AtEnd 7 (keygen_plan asked) (KeyWritten asked) }
 {
     stages_go_in_order();
 }
 
-/// 4 comes exactly where there are too few leaves, but for want of memory; its line has both numbers.
-/// That it comes only there is said where the files tell; `bar_run` says it whatever they tell.
+/// 4 is returned if and only if there are too few leaves, unless memory runs out; its line contains both numbers. That 4 occurs only then
+/// is stated here if the reads agree with the content; `bar_run` states it without this condition.
 pub fn leaves_refused_exactly()
     ensures only { (asked : Keygen) → AtEnd 4 (keygen_plan asked) (λ old new. HasFewLeaves asked) }
     ensures then { (asked : Keygen) (old new : Outside) (status : ℕ) → Ends (keygen_plan asked) old new status → HasFewLeaves asked →
@@ -61,8 +63,8 @@ pub fn leaves_refused_exactly()
     stages_go_in_order();
 }
 
-/// 8 comes exactly where there are enough leaves and the secret is there and hasn't 32 bytes, but for a fault or want of memory; its
-/// line has the length.
+/// 8 is returned if and only if there are enough leaves and the secret exists and doesn't have 32 bytes, unless a fault or running out of
+/// memory stops the command. Its line contains the length.
 pub fn secret_refused_exactly()
     ensures only { (asked : Keygen) → AtEnd 8 (keygen_plan asked) (λ old new.
         (len : ℕ) × SecretRefused asked old.files.content len) }
@@ -74,7 +76,7 @@ pub fn secret_refused_exactly()
     stages_go_in_order();
 }
 
-/// Whatever the status, only the key file is changed.
+/// At every status, only the key file is changed.
 pub fn only_the_key_is_changed()
     ensures { (asked : Keygen) (path : List ℕ) → OfEachEnd (keygen_plan asked) (λ old new status.
         path ≢ asked.key → new.files.content path ≡ old.files.content path) }
@@ -82,7 +84,7 @@ pub fn only_the_key_is_changed()
     stages_go_in_order();
 }
 
-/// After a refusal every file is as it was, and nothing was printed.
+/// After a refusal every file is unchanged, and nothing was printed.
 pub fn refused_keys_change_nothing()
     ensures leaves { (asked : Keygen) → AtEnd 4 (keygen_plan asked) SameFiles }
     ensures leaves_printed { (asked : Keygen) → AtEnd 4 (keygen_plan asked) NothingPrinted }
@@ -92,8 +94,8 @@ pub fn refused_keys_change_nothing()
     stages_go_in_order();
 }
 
-/// Whatever the status, all files are as they were and nothing was printed, or all was accepted, the key file has a front of its text,
-/// and a front of the lines was printed.
+/// At every status, all files are unchanged and nothing was printed; or everything was accepted, the key file contains a prefix of its
+/// text, and a prefix of the lines was printed.
 pub fn a_front_of_the_key_is_made()
     ensures { (asked : Keygen) → OfEachEnd (keygen_plan asked) (λ old new status.
         (SameFiles old new × NothingPrinted old new) ⊎ KeyBegun asked old new) }

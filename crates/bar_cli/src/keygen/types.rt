@@ -1,4 +1,4 @@
-//! The types of signatures that words name.
+//! The types of signatures that arguments name.
 ghost use Rattle.std.specs.Prelude.{◌≡◌, ◌≤◌, Some};
 ghost use Rattle.std.specs.Option.{option_map};
 ghost use Rattle.bar_roster.specs.Shapes.{params_of};
@@ -8,7 +8,7 @@ use crate::keygen::key_types::KeyTypes;
 use bar_arguments::number_in;
 use bar_lms::Params;
 
-// The types that two numbers in their ranges name.
+// The types for two numbers in their ranges.
 fn params_of(lms: u32, ots: u32) -> Option<Params>
     requires lms { (5 ≤ lms) × (lms ≤ 7) }
     requires ots { (1 ≤ ots) × (ots ≤ 4) }
@@ -17,7 +17,7 @@ fn params_of(lms: u32, ots: u32) -> Option<Params>
     Params::of_types(lms, ots).ok()
 }
 
-/// The types of one level that two numbers name: LMS types 5 to 7 and LM-OTS types 1 to 4 (RFC 8554, 5.1 and 4.1).
+/// The types of one level for two numbers: LMS types 5 to 7 and LM-OTS types 1 to 4 (RFC 8554, 5.1 and 4.1).
 pub fn types_of(lms: &str, ots: &str) -> Option<KeyTypes>
     ensures { option_map types_view result ≡ types_of lms.now ots.now }
 {
@@ -27,8 +27,8 @@ pub fn types_of(lms: &str, ots: &str) -> Option<KeyTypes>
     Some(KeyTypes { top: None, params })
 }
 
-/// The types of two levels that two numbers name: LMS types 5 to 7 of the upper tree and LM-OTS types 3 and 4 of both (RFC 8554, 6). The lower
-/// trees have LMS type 5.
+/// The types of two levels for two numbers: LMS types 5 to 7 of the upper tree, and LM-OTS types 3 and 4 of both trees (RFC 8554, 6). The
+/// lower trees have LMS type 5.
 pub fn levels_of(top: &str, ots: &str) -> Option<KeyTypes>
     ensures { option_map types_view result ≡ levels_of top.now ots.now }
 {

@@ -1,10 +1,10 @@
-//! What `keygen` and `hsskeygen` are asked for.
+//! The arguments of `keygen` and `hsskeygen`.
 ghost use Rattle.std.specs.Prelude.{◌≤◌};
 ghost use Rattle.bar_session.specs.Limits.{most_long_rounds};
 
 use crate::keygen::key_types::KeyTypes;
 
-/// The key of a party in a session, the file that holds its secret, and the key file.
+/// The key of a party in a session, the file that contains its secret, and the key file.
 #[derive(Clone, Copy, Debug)]
 pub struct KeygenWords<'a> {
     pub party: u16,

@@ -1,9 +1,9 @@
-//! The words of `audit`.
+//! The arguments of `audit`.
 ghost use Rattle.std.specs.Prelude.{◌≡◌};
 ghost use Rattle.std.specs.Option.{option_map};
 ghost use Rattle.bar_arguments.specs.Options.{texts};
 ghost use Rattle.bar_cli.specs.Line.{audit_values};
-ghost use Rattle.bar_cli.specs.Views.{audited_view};
+ghost use Rattle.bar_cli.specs.Code.Views.{audited_view};
 
 use crate::audit::names::AuditNames;
 use bar_arguments::number_in;

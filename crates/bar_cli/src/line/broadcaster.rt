@@ -1,9 +1,9 @@
-//! The words of `broadcaster`.
+//! The arguments of `broadcaster`.
 ghost use Rattle.std.specs.Prelude.{◌≡◌};
 ghost use Rattle.std.specs.Option.{option_map};
 ghost use Rattle.bar_arguments.specs.Options.{texts};
 ghost use Rattle.bar_cli.specs.Line.{broadcaster_values};
-ghost use Rattle.bar_cli.specs.Views.{broadcaster_view};
+ghost use Rattle.bar_cli.specs.Code.Views.{broadcaster_view};
 
 use bar_arguments::number_in;
 use bar_party_commands::CasterNames;

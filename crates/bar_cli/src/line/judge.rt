@@ -1,9 +1,9 @@
-//! The words of `judge`.
+//! The arguments of `judge`.
 ghost use Rattle.std.specs.Prelude.{◌≡◌};
 ghost use Rattle.std.specs.Option.{option_map};
 ghost use Rattle.bar_arguments.specs.Options.{texts};
 ghost use Rattle.bar_cli.specs.Line.{judge_files};
-ghost use Rattle.bar_cli.specs.Views.{judged_view};
+ghost use Rattle.bar_cli.specs.Code.Views.{judged_view};
 
 use crate::judge::names::JudgeNames;
 

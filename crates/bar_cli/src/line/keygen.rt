@@ -1,11 +1,11 @@
-//! The words of `keygen` and `hsskeygen`.
+//! The arguments of `keygen` and `hsskeygen`.
 ghost use Rattle.std.specs.Prelude.{◌≡◌, ◌≤◌};
 ghost use Rattle.std.specs.Option.{option_map};
 ghost use Rattle.bar_arguments.specs.Options.{texts};
 ghost use Rattle.bar_cli.specs.Line.{asked_by, hsskeygen_values, keygen_values};
 ghost use Rattle.bar_cli.specs.Keygen.Types.{types_view};
 ghost use Rattle.bar_session.specs.Limits.{most_long_rounds};
-ghost use Rattle.bar_cli.specs.Views.{asked_view};
+ghost use Rattle.bar_cli.specs.Code.Views.{asked_view};
 
 use crate::keygen::key_types::KeyTypes;
 use crate::keygen::types::{levels_of, types_of};
@@ -21,7 +21,7 @@ pub(super) const HSSKEYGEN_OPTIONS: [&str; 7] = [
     "party", "id", "rounds", "top", "ots", "secret", "key",
 ];
 
-/// The key that is asked for, of signatures of these types and of so many rounds at the most.
+/// The requested key, with signatures of these types and at most `most` rounds.
 fn asked_of<'a>(
     most: u64,
     types: Option<KeyTypes>,
@@ -48,7 +48,7 @@ fn asked_of<'a>(
     })
 }
 
-/// The key that is asked for, from the values of the options of `keygen`.
+/// The requested key, from the values of the options of `keygen`.
 pub(super) fn keygen_of<'a>(values: &[&'a str]) -> Option<KeygenWords<'a>>
     ensures { option_map asked_view result ≡ keygen_values (texts values.now) }
 {
@@ -66,7 +66,7 @@ pub(super) fn keygen_of<'a>(values: &[&'a str]) -> Option<KeygenWords<'a>>
     )
 }
 
-/// The key that is asked for, from the values of the options of `hsskeygen`.
+/// The requested key, from the values of the options of `hsskeygen`.
 pub(super) fn hsskeygen_of<'a>(values: &[&'a str]) -> Option<KeygenWords<'a>>
     ensures { option_map asked_view result ≡ hsskeygen_values (texts values.now) }
 {

@@ -3,7 +3,7 @@ ghost use Rattle.std.specs.Prelude.{◌≡◌};
 ghost use Rattle.std.specs.Option.{option_map};
 ghost use Rattle.bar_arguments.specs.Options.{texts};
 ghost use Rattle.bar_cli.specs.Line.{asked_with, command_named, options_of};
-ghost use Rattle.bar_cli.specs.Views.{command_view};
+ghost use Rattle.bar_cli.specs.Code.Views.{command_view};
 
 use super::Command;
 use super::audit::{AUDIT_OPTIONS, audit_of};
@@ -34,7 +34,7 @@ pub enum CommandName {
 }
 
 impl CommandName {
-    /// The command that a word names.
+    /// The command that an argument names.
     pub(super) fn read(word: &str) -> Option<CommandName>
         ensures { result ≡ command_named word.now }
     {
@@ -54,7 +54,7 @@ impl CommandName {
         }
     }
 
-    /// Its options. Each is given once, with a value.
+    /// Its options. Each is given exactly once, with a value.
     pub(super) fn options(self) -> &'static [&'static str]
         ensures { texts result.now ≡ options_of self }
     {
@@ -73,7 +73,7 @@ impl CommandName {
         }
     }
 
-    /// What it asks for, by the values of its options in their order.
+    /// The command with the values of its options, in the order of `options`.
     pub(super) fn asked<'a>(self, values: &[&'a str]) -> Option<Command<'a>>
         ensures { option_map command_view result ≡ asked_with self (texts values.now) }
     {

@@ -1,9 +1,9 @@
-//! The words of `pack`.
+//! The arguments of `pack`.
 ghost use Rattle.std.specs.Prelude.{◌≡◌};
 ghost use Rattle.std.specs.Option.{option_map};
 ghost use Rattle.bar_arguments.specs.Options.{texts};
 ghost use Rattle.bar_cli.specs.Line.{pack_files};
-ghost use Rattle.bar_cli.specs.Views.{packed_view};
+ghost use Rattle.bar_cli.specs.Code.Views.{packed_view};
 
 use crate::pack::names::PackNames;
 

@@ -1,9 +1,9 @@
-//! The words of `peer`.
+//! The arguments of `peer`.
 ghost use Rattle.std.specs.Prelude.{◌≡◌};
 ghost use Rattle.std.specs.Option.{option_map};
 ghost use Rattle.bar_arguments.specs.Options.{texts};
 ghost use Rattle.bar_cli.specs.Line.{peer_values};
-ghost use Rattle.bar_cli.specs.Views.{peer_view};
+ghost use Rattle.bar_cli.specs.Code.Views.{peer_view};
 
 use bar_arguments::number_in;
 use bar_party_commands::PeerNames;

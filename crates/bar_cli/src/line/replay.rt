@@ -1,9 +1,9 @@
-//! The words of `replay`.
+//! The arguments of `replay`.
 ghost use Rattle.std.specs.Prelude.{◌≡◌};
 ghost use Rattle.std.specs.Option.{option_map};
 ghost use Rattle.bar_arguments.specs.Options.{texts};
 ghost use Rattle.bar_cli.specs.Line.{replay_files};
-ghost use Rattle.bar_cli.specs.Views.{replay_view};
+ghost use Rattle.bar_cli.specs.Code.Views.{replay_view};
 
 use crate::replay::names::ReplayNames;
 

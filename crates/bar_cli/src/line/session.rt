@@ -1,9 +1,9 @@
-//! The words of `session`.
+//! The arguments of `session`.
 ghost use Rattle.std.specs.Prelude.{◌≡◌};
 ghost use Rattle.std.specs.Option.{option_map};
 ghost use Rattle.bar_arguments.specs.Options.{texts};
 ghost use Rattle.bar_cli.specs.Line.{session_values};
-ghost use Rattle.bar_cli.specs.Views.{session_view};
+ghost use Rattle.bar_cli.specs.Code.Views.{session_view};
 
 use bar_arguments::number_in;
 use bar_child_processes::SessionNames;
@@ -12,7 +12,7 @@ pub(super) const SESSION_OPTIONS: [&str; 6] = [
     "session", "keys", "stream", "begin", "results", "program",
 ];
 
-/// What a session is made of, from the values of its options. The time is handed on as its word.
+/// The arguments of a session, from the values of its options. The time is passed on as text.
 pub(super) fn session_of<'a>(values: &[&'a str]) -> Option<SessionNames<'a>>
     ensures { option_map session_view result ≡ session_values (texts values.now) }
 {

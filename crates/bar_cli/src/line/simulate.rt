@@ -1,9 +1,9 @@
-//! The words of `simulate`.
+//! The arguments of `simulate`.
 ghost use Rattle.std.specs.Prelude.{◌≡◌};
 ghost use Rattle.std.specs.Option.{option_map};
 ghost use Rattle.bar_arguments.specs.Options.{texts};
 ghost use Rattle.bar_cli.specs.Line.{simulate_values};
-ghost use Rattle.bar_cli.specs.Views.{seed_view};
+ghost use Rattle.bar_cli.specs.Code.Views.{seed_view};
 
 use bar_arguments::number_in;
 

@@ -1,9 +1,9 @@
-//! The words of `verify`.
+//! The arguments of `verify`.
 ghost use Rattle.std.specs.Prelude.{◌≡◌};
 ghost use Rattle.std.specs.Option.{option_map};
 ghost use Rattle.bar_arguments.specs.Options.{texts};
 ghost use Rattle.bar_cli.specs.Line.{verify_files};
-ghost use Rattle.bar_cli.specs.Views.{verified_view};
+ghost use Rattle.bar_cli.specs.Code.Views.{verified_view};
 
 use crate::verify::names::VerifyNames;
 

@@ -1,8 +1,8 @@
-//! What each exit status of `pack` means, and what then stands.
+//! What each exit status of `pack` means, and what then holds.
 ghost use Rattle.std.specs.Prelude.{IsTrue, ◌≡◌, ◌≢◌, ◌⊎◌, ℕ, List, [], None, IsSomeAnd, true};
-ghost use Rattle.bar_outside.specs.Causes.{Rose};
+ghost use Rattle.bar_outside.specs.Code.Causes.{Rose};
 ghost use Rattle.bar_outside.specs.Disk.{Content, readable};
-ghost use Rattle.bar_outside.specs.Follows.{IsReliable};
+ghost use Rattle.bar_outside.specs.Code.Follows.{IsReliable};
 ghost use Rattle.bar_outside.specs.Plan.{Outside, is_stop, line_at};
 ghost use Rattle.bar_outside.specs.Ends.{Ends, OfEachEnd, AtEnd, UnlessStopped, SameFiles, NothingPrinted};
 ghost use Rattle.bar_roster.specs.declared.fault.SessionFault.{SessionFault};
@@ -16,9 +16,9 @@ use bar_outside::stages_go_in_order;
 use bar_proof::laws::{tables_are_spelled, what_is_shown_is_packed};
 use bar_roster::laws::accepted_sessions_are_in_range;
 
-/// Where all files are accepted, the status is 0 exactly where the rules show a fault, and 1 exactly where they show none, but for a fault
-/// of the outside or want of memory; and these come only there. At 0 the proof file has exactly what is packed, and its length was printed; at
-/// 1 the reason was printed and no file is changed. Nothing was printed on standard error.
+/// If all files are accepted, the status is 0 if the rules show a fault and 1 if they show none, unless a fault of the outside or running
+/// out of memory stops the command. 0 and 1 are returned only in these cases. At 0 the proof file contains exactly what is packed, and its
+/// length was printed. At 1 the reason was printed, and no file is changed. Nothing was printed on standard error.
 pub fn a_proof_is_packed()
     ensures shown { (names : PackFiles) → AtEnd 0 (pack_plan names) (Packed names) }
     ensures not_shown { (names : PackFiles) → AtEnd 1 (pack_plan names) (NotPacked names) }
@@ -34,8 +34,8 @@ pub fn a_proof_is_packed()
     accepted_sessions_are_in_range();
 }
 
-/// Where all files are accepted and no count rose, the status is that of the verdict, but for want of memory. So it is where nothing fails
-/// by itself.
+/// If all files are accepted and no fault count rose, the status is that of the verdict, unless memory runs out. The same holds if the
+/// outside is reliable.
 pub fn a_proof_is_packed_where_all_is_accepted()
     ensures without_faults { (names : PackFiles) → OfEachEnd (pack_plan names) (λ old new status.
         (accepted : PackAccepted names old.files.content) →
@@ -46,8 +46,9 @@ pub fn a_proof_is_packed_where_all_is_accepted()
         (status ≡ status_of_verdict (verdict_in names old.files.content accepted)) ⊎ (status ≡ 70) }
 {}
 
-/// 3 comes only where the files' count rose, and where they tell, by a call that `pack` makes; 7 only where the count of the output rose. A
-/// file that isn't there or is too large stops it: the evidence does so even where the table is refused.
+/// 3 is returned only if the fault count of the files rose; if the reads agree with the content, a call that `pack` makes failed. 7 is
+/// returned only if the fault count of the output rose. A file that doesn't exist or is too large stops the command; for the evidence this
+/// holds even if the table is refused.
 pub fn packing_fails_only()
     ensures file { (names : PackFiles) (old new : Outside) → Ends (pack_plan names) old new 3 → Rose old.files.faults new.files.faults }
     ensures named { (names : PackFiles) → AtEnd 3 (pack_plan names) (λ old new. IsSomeAnd new.files.failed (IsPackCall names)) }
@@ -62,15 +63,17 @@ pub fn packing_fails_only()
     stages_go_in_order();
 }
 
-/// 7 comes only behind all that is refused: where the files tell, the proof file has all that is packed and a front of its line was printed, or
-/// nothing is shown, no file is changed and a front of the reason's line was printed.
+/// 7 is returned only if nothing was refused. If the reads agree with the content, one of two cases holds. The proof file contains
+/// everything that is packed, and a prefix of its line was printed; or no fault is shown, no file is changed, and a prefix of the reason's
+/// line was printed.
 pub fn output_fails_behind_the_proof()
     ensures { (names : PackFiles) → AtEnd 7 (pack_plan names) (λ old new. ProofWritten names old new ⊎ NotPackedFront names old new) }
 {
     stages_go_in_order();
 }
 
-/// 4 comes exactly where the session is there and refused, but for a fault or want of memory; its line has the first fault.
+/// 4 is returned if and only if the session exists and is refused, unless a fault or running out of memory stops the command. Its line
+/// contains the first fault.
 pub fn a_bad_session_is_not_packed()
     ensures only { (names : PackFiles) → AtEnd 4 (pack_plan names) (λ old new.
         (fault : SessionFault) × HasBadSession names.session old.files.content fault) }
@@ -82,8 +85,9 @@ pub fn a_bad_session_is_not_packed()
     stages_go_in_order();
 }
 
-/// 8 comes exactly where the session is accepted, the table and the evidence are there, and the table is refused, or the table is accepted
-/// and the evidence is refused, but for a fault or want of memory; its line has the place of the table's bad entry, or names the evidence.
+/// Unless a fault or running out of memory stops the command, 8 is returned in exactly two cases, in which the session is accepted and the
+/// table and the evidence exist. The table is refused; or the table is accepted, and the evidence is refused. The line contains the place
+/// of the table's bad entry, or names the evidence.
 pub fn a_bad_table_or_evidence_is_not_packed()
     ensures only { (names : PackFiles) → AtEnd 8 (pack_plan names) (λ old new.
         ((at : ℕ) × HasBadTable names old.files.content at) ⊎ HasBadEvidence names old.files.content) }
@@ -99,7 +103,7 @@ pub fn a_bad_table_or_evidence_is_not_packed()
     stages_go_in_order();
 }
 
-/// Whatever the status, only the proof file is changed.
+/// At every status, only the proof file is changed.
 pub fn only_the_proof_is_changed()
     ensures { (names : PackFiles) (path : List ℕ) → OfEachEnd (pack_plan names) (λ old new status.
         path ≢ names.proof → new.files.content path ≡ old.files.content path) }
@@ -107,7 +111,7 @@ pub fn only_the_proof_is_changed()
     stages_go_in_order();
 }
 
-/// After a refusal every file is as it was, and nothing was printed.
+/// After a refusal every file is unchanged, and nothing was printed.
 pub fn refused_packing_changes_nothing()
     ensures session { (names : PackFiles) → AtEnd 4 (pack_plan names) SameFiles }
     ensures session_printed { (names : PackFiles) → AtEnd 4 (pack_plan names) NothingPrinted }
@@ -117,9 +121,9 @@ pub fn refused_packing_changes_nothing()
     stages_go_in_order();
 }
 
-/// Whatever the status, all files are as they were and nothing was printed; or nothing is shown, all files are as they were, and a front of
-/// the reason's line was printed; or a fault is shown, the proof file has a front of what is packed, and behind all of it a front of its line
-/// was printed.
+/// At every status one of these holds. All files are unchanged, and nothing was printed; or no fault is shown, all files are unchanged, and
+/// a prefix of the reason's line was printed; or a fault is shown, and the proof file contains a prefix of what is packed. In the last case
+/// a prefix of its line was printed once the file was complete.
 pub fn a_front_of_the_proof_is_made()
     ensures { (names : PackFiles) → OfEachEnd (pack_plan names) (λ old new status. PackFront names old new) }
 {

@@ -1,4 +1,4 @@
-//! What `pack` is asked for.
+//! The arguments of `pack`.
 
 /// The files of `pack`: three that it reads, and the proof file.
 #[derive(Clone, Copy, Debug)]

@@ -1,4 +1,4 @@
-//! Packing evidence, with a count of steps that nobody reads.
+//! Packing evidence. Steps are counted, but the count isn't used.
 ghost use Rattle.std.specs.Prelude.{◌≡◌, ◌<◌, IfOk, IfErr};
 ghost use Rattle.bar_proof.specs.Packing.{IsPacked, IsRefused};
 
@@ -34,7 +34,7 @@ fn pack_counted<L: Ledger>(
     )
 }
 
-/// The proof file of evidence that is shown under the table of a file.
+/// The proof file for evidence that shows a fault under the table of a file.
 pub fn pack_evidence(
     alloc: Global,
     session: &Session,

@@ -1,8 +1,8 @@
-//! What each exit status of a replay means, and what then stands.
+//! What each exit status of a replay means, and what then holds.
 ghost use Rattle.std.specs.Prelude.{IsTrue, ◌≡◌, ◌≢◌, ◌⊎◌, ℕ, List, [], None, IsSomeAnd, true};
-ghost use Rattle.bar_outside.specs.Causes.{Rose};
+ghost use Rattle.bar_outside.specs.Code.Causes.{Rose};
 ghost use Rattle.bar_outside.specs.Disk.{Content, readable};
-ghost use Rattle.bar_outside.specs.Follows.{IsReliable};
+ghost use Rattle.bar_outside.specs.Code.Follows.{IsReliable};
 ghost use Rattle.bar_outside.specs.Plan.{Outside, is_stop, ending, line_at};
 ghost use Rattle.bar_outside.specs.Ends.{Ends, OfEachEnd, AtEnd, UnlessStopped};
 ghost use Rattle.bar_seeds.specs.declared.secrets.Secrets.{Secrets};
@@ -25,8 +25,8 @@ use bar_roster::laws::{
     accepted_keys_are_read_back, accepted_secrets_are_held, accepted_sessions_are_in_range,
 };
 
-/// 0 comes exactly where all files are accepted, but for a fault or want of memory; then all inputs were played, and what was found behind
-/// them is written.
+/// 0 is returned if and only if all files are accepted, unless a fault or running out of memory stops the replay. Then all inputs were
+/// played, and what was found after them is written.
 pub fn done_exactly()
     ensures only { (names : ReplayFiles) → AtEnd 0 (replay_plan names) (Replayed names) }
     ensures then { (names : ReplayFiles) → OfEachEnd (replay_plan names) (λ old new status.
@@ -38,7 +38,7 @@ pub fn done_exactly()
     stages_go_in_order();
 }
 
-/// Where all files are accepted and no count rose, the status is 0, but for want of memory. So it is where nothing fails by itself.
+/// If all files are accepted and no fault count rose, the status is 0, unless memory runs out. The same holds if the outside is reliable.
 pub fn done_where_all_is_accepted()
     ensures without_faults { (names : ReplayFiles) → OfEachEnd (replay_plan names) (λ old new status.
         Accepted names old.files.content → (Rose old.files.faults new.files.faults → ⊥) → (Rose old.out.faults new.out.faults → ⊥) →
@@ -47,8 +47,8 @@ pub fn done_where_all_is_accepted()
         Accepted names old.files.content → (status ≡ 0) ⊎ (status ≡ 70) }
 {}
 
-/// 3 comes only where the files' count rose, and where they tell, by a call that a replay makes. A file that isn't there or is too large
-/// stops it.
+/// 3 is returned only if the fault count of the files rose; if the reads agree with the content, a call that a replay makes failed. A file
+/// that doesn't exist or is too large stops the replay.
 pub fn file_failed_only()
     ensures rose { (names : ReplayFiles) (old new : Outside) → Ends (replay_plan names) old new 3 → Rose old.files.faults new.files.faults }
     ensures named { (names : ReplayFiles) → AtEnd 3 (replay_plan names) (λ old new. IsSomeAnd new.files.failed (IsReplayCall names)) }
@@ -62,7 +62,8 @@ pub fn file_failed_only()
     stages_go_in_order();
 }
 
-/// 4 comes exactly where the session is there and refused, but for a fault or want of memory; its line has the first fault.
+/// 4 is returned if and only if the session exists and is refused, unless a fault or running out of memory stops the replay. Its line
+/// contains the first fault.
 pub fn session_refused_exactly()
     ensures only { (names : ReplayFiles) → AtEnd 4 (replay_plan names) (λ old new.
         (fault : SessionFault) × HasBadSession names.session old.files.content fault) }
@@ -74,8 +75,8 @@ pub fn session_refused_exactly()
     stages_go_in_order();
 }
 
-/// 5 comes exactly where the session is accepted, and the key file is there and refused, but for a fault or want of memory; its line has
-/// the first fault.
+/// 5 is returned if and only if the session is accepted and the key file exists and is refused, unless a fault or running out of memory
+/// stops the replay. Its line contains the first fault.
 pub fn key_refused_exactly()
     ensures only { (names : ReplayFiles) → AtEnd 5 (replay_plan names) (λ old new.
         (session : SessionData) × (fault : KeyFileFault) × KeyRefused names old.files.content session fault) }
@@ -87,8 +88,8 @@ pub fn key_refused_exactly()
     stages_go_in_order();
 }
 
-/// 8 comes exactly where the session and the key are accepted, and the recording is there and refused, but for a fault or want of memory;
-/// its line has the first fault.
+/// 8 is returned if and only if the session and the key are accepted and the recording exists and is refused, unless a fault or running out
+/// of memory stops the replay. Its line contains the first fault.
 pub fn input_refused_exactly()
     ensures only { (names : ReplayFiles) → AtEnd 8 (replay_plan names) (λ old new.
         (session : SessionData) × (k : Secrets) × (fault : RecordFault) × InputRefused names old.files.content session k fault) }
@@ -100,8 +101,8 @@ pub fn input_refused_exactly()
     stages_go_in_order();
 }
 
-/// 7 comes only where the count of out rose. Where the files tell, all were accepted then, and it comes behind all that an input plays, and
-/// before anything that was found is written.
+/// 7 is returned only if the fault count of out rose. If the reads agree with the content, everything was accepted before; the fault occurs
+/// after everything that its input plays, and before anything that was found is written.
 pub fn output_failed_only()
     ensures rose { (names : ReplayFiles) (old new : Outside) → Ends (replay_plan names) old new 7 → Rose old.out.faults new.out.faults }
     ensures in_order { (names : ReplayFiles) → AtEnd 7 (replay_plan names) (PlayedUpTo names 7) }
@@ -110,10 +111,10 @@ pub fn output_failed_only()
     stages_go_in_order();
 }
 
-/// Where the files tell, this is how far a replay came, whatever stopped it: nothing was changed and nothing printed; or the played file
-/// was made and is empty; or there is one input such that the played file and the transcript have all that belongs to earlier inputs and
-/// nothing that belongs to later ones; or all that belongs to the inputs stands, and what was found behind them is written so far, in
-/// order.
+/// How far a replay got, whatever stopped it, if the reads agree with the content. One of four cases holds. Nothing was changed or printed;
+/// or the played file was created and is empty; or there is one input such that the played file and the transcript contain everything of
+/// the earlier inputs and nothing of the later ones; or everything of the inputs was written, and what was found after them was written in
+/// order up to some point.
 pub fn a_replay_stops_in_order()
     ensures { (names : ReplayFiles) → OfEachEnd (replay_plan names) (λ old new status.
         ChangesNothing old new ⊎ (IsMade names old new ⊎ (PlayedUpTo names status old new ⊎ FoundUpTo names status old new))) }
@@ -122,7 +123,7 @@ pub fn a_replay_stops_in_order()
     stages_go_in_order();
 }
 
-/// Whatever the status, only the played file is changed, and those of what was found.
+/// At every status, only the played file and the files of what was found are changed.
 pub fn only_its_files_are_changed()
     ensures { (names : ReplayFiles) (path : List ℕ) → OfEachEnd (replay_plan names) (λ old new status.
         path ≢ names.played → (IsFindingName names.found path → ⊥) → new.files.content path ≡ old.files.content path) }
@@ -130,7 +131,7 @@ pub fn only_its_files_are_changed()
     stages_go_in_order();
 }
 
-/// After a refusal, and where the words aren't a line, every file is as it was, and nothing is printed.
+/// After a refusal, and if the arguments aren't a valid command line, every file is unchanged and nothing is printed.
 pub fn refusals_change_nothing()
     ensures usage { OfEachEnd (ending 2 usage) (λ old new status. ChangesNothing old new) }
     ensures session { (names : ReplayFiles) → AtEnd 4 (replay_plan names) ChangesNothing }
@@ -140,8 +141,8 @@ pub fn refusals_change_nothing()
     stages_go_in_order();
 }
 
-/// Whatever the status, all is as it was, or the played file has a front of what the rules play over the recording's inputs, and the
-/// transcript a front of what they send.
+/// At every status, nothing is changed; or the played file contains a prefix of what the rules play over the recording's inputs, and the
+/// transcript a prefix of what they send.
 pub fn a_front_is_played()
     ensures { (names : ReplayFiles) → OfEachEnd (replay_plan names) (λ old new status.
         ChangesNothing old new ⊎ PlayedFront names old new) }
@@ -150,8 +151,8 @@ pub fn a_front_is_played()
     stages_go_in_order();
 }
 
-/// Whatever its status, a replay printed nothing; or its files were accepted, what it printed is a front of the transcript up to one place
-/// of its recording, and its peer keeps the rules at each moment of the recording.
+/// At every status, a replay printed nothing; or its files were accepted, it printed a prefix of the transcript up to one place of its
+/// recording, and its peer keeps the rules at each moment of the recording.
 pub fn a_replay_keeps_the_rules()
     ensures { (names : ReplayFiles) → OfEachEnd (replay_plan names) (ReplayHeadline names) }
 {
@@ -161,8 +162,8 @@ pub fn a_replay_keeps_the_rules()
     stages_go_in_order();
 }
 
-/// A replay of the recording that a peer left which is done ends with 0, but for a fault or want of memory. Then it shows exactly what the
-/// peer sent, plays the same bytes, and finds the same.
+/// The replay of the recording of a completed peer run ends with 0, unless a fault or running out of memory stops it. Then it shows exactly
+/// what the peer sent, plays the same bytes, and finds the same.
 pub fn a_finished_recording_is_replayed()
     ensures { IsReplayed }
 {

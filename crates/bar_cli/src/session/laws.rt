@@ -1,7 +1,7 @@
-//! What follows of the names of a session's files.
+//! Properties of the names of a session's files.
 ghost use Rattle.bar_cli.specs.SessionFiles.{PeersHaveOwnNames};
 
-/// Where neither of the words that begin the names of keys and of results begins with the other, the names of each peer's files differ.
+/// If neither the prefix of key names nor the prefix of result names is a prefix of the other, the names of each peer's files differ.
 pub fn peers_have_files_of_their_own()
     ensures { PeersHaveOwnNames }
 {}

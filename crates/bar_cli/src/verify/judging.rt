@@ -1,6 +1,6 @@
-//! Judging a proof file, with a count of steps that nobody reads.
+//! Judging a proof file. Steps are counted, but the count isn't used.
 ghost use Rattle.std.specs.Prelude.{◌≡◌, ◌⊎◌, ◌<◌, Ok, Err, IfOk, IfErr};
-ghost use Rattle.bar_judge.specs.Verdicts.{plain_verdict};
+ghost use Rattle.bar_judge.specs.Code.Verdicts.{plain_verdict};
 ghost use Rattle.bar_cli.specs.Judge.Judging.{verdict_of_proof};
 
 use crate::verifier::verifier_of;

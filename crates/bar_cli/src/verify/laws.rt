@@ -1,8 +1,8 @@
-//! What each exit status of `verify` means, and what then stands.
+//! What each exit status of `verify` means, and what then holds.
 ghost use Rattle.std.specs.Prelude.{IsTrue, ◌≡◌, ◌⊎◌, ℕ, [], None, IsSomeAnd, true};
-ghost use Rattle.bar_outside.specs.Causes.{Rose};
+ghost use Rattle.bar_outside.specs.Code.Causes.{Rose};
 ghost use Rattle.bar_outside.specs.Disk.{Content, readable};
-ghost use Rattle.bar_outside.specs.Follows.{IsReliable};
+ghost use Rattle.bar_outside.specs.Code.Follows.{IsReliable};
 ghost use Rattle.bar_outside.specs.Plan.{Outside, is_stop, line_at};
 ghost use Rattle.bar_outside.specs.Ends.{Ends, OfEachEnd, AtEnd, UnlessStopped, SameFiles, NothingPrinted};
 ghost use Rattle.bar_roster.specs.declared.fault.SessionFault.{SessionFault};
@@ -17,9 +17,9 @@ ghost use Rattle.bar_cli.specs.Verify.{VerifyFiles, VerifyAccepted, HasBadProof,
 use bar_outside::stages_go_in_order;
 use bar_proof::laws::proofs_are_spelled;
 
-/// Where both files are accepted, the status is 0 exactly where the rules show a fault under the proof file's own table, and 1 exactly where
-/// they show none, but for a fault of the outside or want of memory; and these come only there. Then the line of the verdict was printed, and
-/// nothing on standard error.
+/// If both files are accepted, the status is 0 or 1, unless a fault of the outside or running out of memory stops the command. It is 0 if
+/// the rules show a fault under the proof file's own table, and 1 if they show none. 0 and 1 are returned only if both files are accepted.
+/// Then the line of the verdict was printed, and nothing was printed on standard error.
 pub fn the_proof_is_judged()
     ensures shown { (names : VerifyFiles) → AtEnd 0 (verify_plan names) (λ old new.
         (party : ℕ) × (fault : Fault) × Verified names (Shown party fault) old new) }
@@ -33,8 +33,8 @@ pub fn the_proof_is_judged()
     proofs_are_spelled();
 }
 
-/// Where both files are accepted and no count rose, the status is that of the verdict, but for want of memory. So it is where nothing fails
-/// by itself.
+/// If both files are accepted and no fault count rose, the status is that of the verdict, unless memory runs out. The same holds if the
+/// outside is reliable.
 pub fn the_proof_is_judged_where_all_is_accepted()
     ensures without_faults { (names : VerifyFiles) (verdict : Verdict) → OfEachEnd (verify_plan names) (λ old new status.
         VerifyAccepted names old.files.content verdict →
@@ -44,8 +44,9 @@ pub fn the_proof_is_judged_where_all_is_accepted()
         IsReliable old → IsTrue new.files.told → VerifyAccepted names old.files.content verdict → (status ≡ status_of_verdict verdict) ⊎ (status ≡ 70) }
 {}
 
-/// 3 comes only where the files' count rose, and where they tell, by a read of one of both files; 7 only where the count of the output rose,
-/// and where the files tell, only after both were accepted. A file that isn't there or is too large stops it.
+/// 3 is returned only if the fault count of the files rose; if the reads agree with the content, a read of one of the two files failed. 7
+/// is returned only if the fault count of the output rose; if the reads agree, both were accepted before. A file that doesn't exist or is
+/// too large stops the command.
 pub fn verifying_fails_only()
     ensures file { (names : VerifyFiles) (old new : Outside) → Ends (verify_plan names) old new 3 → Rose old.files.faults new.files.faults }
     ensures named { (names : VerifyFiles) → AtEnd 3 (verify_plan names) (λ old new. IsSomeAnd new.files.failed (IsVerifyCall names)) }
@@ -59,7 +60,8 @@ pub fn verifying_fails_only()
     stages_go_in_order();
 }
 
-/// 4 comes exactly where the session is there and refused, but for a fault or want of memory; its line has the first fault.
+/// 4 is returned if and only if the session exists and is refused, unless a fault or running out of memory stops the command. Its line
+/// contains the first fault.
 pub fn a_bad_session_is_not_verified()
     ensures only { (names : VerifyFiles) → AtEnd 4 (verify_plan names) (λ old new.
         (fault : SessionFault) × HasBadSession names.session old.files.content fault) }
@@ -71,8 +73,8 @@ pub fn a_bad_session_is_not_verified()
     stages_go_in_order();
 }
 
-/// 8 comes exactly where the session is accepted and the proof file is there and refused, but for a fault or want of memory; its line has the
-/// first fault from the left, and the place of a manifest.
+/// 8 is returned if and only if the session is accepted and the proof file exists and is refused, unless a fault or running out of memory
+/// stops the command. Its line contains the first fault from the left, and the place of a manifest.
 pub fn a_bad_proof_is_refused()
     ensures only { (names : VerifyFiles) → AtEnd 8 (verify_plan names) (λ old new.
         (fault : ProofFault) × HasBadProof names old.files.content fault) }
@@ -84,7 +86,7 @@ pub fn a_bad_proof_is_refused()
     stages_go_in_order();
 }
 
-/// Whatever the status, no file is changed; after a refusal nothing was printed.
+/// At every status, no file is changed. After a refusal nothing was printed.
 pub fn verifying_changes_nothing()
     ensures files { (names : VerifyFiles) → OfEachEnd (verify_plan names) (λ old new status. SameFiles old new) }
     ensures session { (names : VerifyFiles) → AtEnd 4 (verify_plan names) NothingPrinted }
@@ -93,7 +95,7 @@ pub fn verifying_changes_nothing()
     stages_go_in_order();
 }
 
-/// Whatever the status, nothing was printed, or all was accepted and a front of the verdict's line was.
+/// At every status, nothing was printed, or everything was accepted and a prefix of the verdict's line was printed.
 pub fn a_front_of_the_proofs_verdict_is_printed()
     ensures { (names : VerifyFiles) → OfEachEnd (verify_plan names) (λ old new status.
         NothingPrinted old new ⊎ VerifiedFront names old new) }

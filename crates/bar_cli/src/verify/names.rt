@@ -1,4 +1,4 @@
-//! What `verify` is asked for.
+//! The arguments of `verify`.
 
 /// The files of `verify`.
 #[derive(Clone, Copy, Debug)]

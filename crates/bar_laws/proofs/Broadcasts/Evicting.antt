@@ -1,4 +1,4 @@
--- The broadcaster evicts exactly the parties against which evidence came in time, and keeps the first against each.
+-- The broadcaster evicts exactly the parties against which evidence arrived in time, and keeps the first evidence against each.
 use Rattle.bar_laws.specs.Broadcasting.{EvictsExactly, WasShown, WasShownFirst}
 use Rattle.bar_rules.specs.Broadcaster.Party.{IsBroadcaster}
 use Rattle.bar_rules.specs.Broadcaster.Sending.{caster_log_after, caster_step, caster_take, evict_by, evicted, judge_body, judge_datagram}
@@ -46,7 +46,7 @@ sender-peer s t evidence (d ∷ ds) fault read peer found =
     let r = first-read s evidence d ds read in
     peer_kind_sends s.shape d.message.body d.message.from d.message.to (and_parts _ _ (and_parts _ _ peer).0).0 (read-fits s r.0 d r.1).may_send
 
--- it is shown against a peer
+-- evidence is shown against a peer
 shown-peer : (s : Session) (t : Table) (evidence : List (List ℕ)) (party : ℕ) (fault : Fault) → verdict s t evidence ≡ Shown party fault → IsPeer s.shape party
 shown-peer s t evidence party fault e =
     let w : IsShown s t evidence party fault = shown-is s t evidence party fault e in
@@ -54,7 +54,7 @@ shown-peer s t evidence party fault e =
 
 -- ---- one input
 
--- Bytes that come show evidence against a party, in time.
+-- An input's bytes show evidence against a party, in time.
 record IsShowing (me : Member) (stream : List ℕ) (log : Log) (bytes : List ℕ) (party : ℕ) (evidence : List (List ℕ)) : Type 0 where
   in_time : ticks log < last_tick me.session
   datagram : Datagram
@@ -63,7 +63,7 @@ record IsShowing (me : Member) (stream : List ℕ) (log : Log) (bytes : List ℕ
   fault : Fault
   shown : verdict me.session (caster_table me stream log) evidence ≡ Shown party fault
 
--- such evidence is kept, unless some was
+-- such evidence is kept, unless some was kept before
 showing-kept : (me : Member) (stream : List ℕ) (log : Log) (bytes : List ℕ) (q : ℕ) (evidence : List (List ℕ)) → IsShowing me stream log bytes q evidence
     → kept (caster_step me stream log (event.Datagram bytes)).state q ≡ Some (unwrap_or (kept log q) evidence)
 unfolding caster_step
@@ -78,7 +78,7 @@ showing-kept me stream log bytes q evidence w = ap (λ l. kept l q) state ∙ go
     go (Some f) e = e
     go None e = rw (e, eqb_refl q) refl
 
--- what is kept stays so
+-- evidence that is kept remains kept
 step-keeps : (me : Member) (stream : List ℕ) (log : Log) (i : Input) (q : ℕ) (evidence : List (List ℕ)) → IsBroadcaster me → kept log q ≡ Some evidence → kept (caster_step me stream log i).state q ≡ Some evidence
 unfolding caster_step
 step-keeps me stream log i q evidence is h = go (nat_le (last_tick me.session) (ticks log)) i
@@ -88,7 +88,7 @@ step-keeps me stream log i q evidence is h = go (nat_le (last_tick me.session) (
     go false event.Tick = (tick-serves me stream log is).0 q ∙ h
     go false (event.Datagram bytes) = judged-keeps (λ l. kept l q ≡ Some evidence) me stream log _ h (λ p other. option_or-some (kept log q) (kept_in q (Kept p other)) evidence h)
 
--- what is newly kept was shown
+-- evidence that is newly kept was shown
 newly-kept : (me : Member) (stream : List ℕ) (log : Log) (i : Input) (q : ℕ) (evidence : List (List ℕ)) → IsBroadcaster me → kept log q ≡ None → kept (caster_step me stream log i).state q ≡ Some evidence
     → (bytes : List ℕ) × (i ≡ event.Datagram bytes) × IsShowing me stream log bytes q evidence
 unfolding caster_step
@@ -137,7 +137,7 @@ run-keeps : (me : Member) (stream : List ℕ) (log : Log) (inputs : List Input) 
 run-keeps me stream log [] q evidence is h = h
 run-keeps me stream log (i ∷ inputs) q evidence is h = run-keeps me stream (caster_step me stream log i).state inputs q evidence is (step-keeps me stream log i q evidence is h)
 
--- Of a run from a log, the input that first shows evidence against a party.
+-- The input of a run, from a log on, that first shows evidence against a party.
 record IsFirst (me : Member) (stream : List ℕ) (log : Log) (inputs : List Input) (party : ℕ) (evidence : List (List ℕ)) : Type 0 where
   before : List Input
   bytes : List ℕ
@@ -165,7 +165,7 @@ first-shown me stream log (i ∷ inputs) q evidence is none e = go (kept next q)
 
 -- ---- the law
 
--- what was shown, or what was kept before it, is kept
+-- evidence that was shown is kept, unless some was kept before, which remains
 shown-kept : (me : Member) (stream : List ℕ) (inputs : List Input) (q : ℕ) (evidence : List (List ℕ)) → IsBroadcaster me → (w : WasShown me stream inputs q evidence)
     → kept (caster_log_after me stream inputs) q ≡ Some (unwrap_or (kept (caster_log_after me stream w.before) q) evidence)
 shown-kept me stream inputs q evidence is w =

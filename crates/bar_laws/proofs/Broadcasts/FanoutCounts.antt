@@ -1,4 +1,4 @@
--- A fan-out has as many peers as the session says: in a strict order just k elements of a list have fewer than k others before them.
+-- A fan-out has as many peers as the session says: in a strict order, exactly k elements of a list have fewer than k others before them.
 use Rattle.bar_rules.specs.Broadcaster.Stream.{peers_of, rank_of}
 use Rattle.bar_rules.specs.Member.{Member}
 use Rattle.bar_window.specs.declared.update.UpdateId.{UpdateId}
@@ -32,13 +32,13 @@ at-most : (b c : Bool) → (b ≡ true → c ≡ true) → bit b ≤ bit c
 at-most true c h = rw (h refl) (omega arith)
 at-most false c h = omega arith
 
--- the weaker test keeps as many at least
+-- the weaker test keeps at least as many
 pub weaker-keeps :
     {X : Type 0} (f g : X → Bool) (xs : List X) → ((x : X) → f x ≡ true → g x ≡ true) → length (filter f xs) ≤ length (filter g xs)
 weaker-keeps f g [] h = omega arith
 weaker-keeps f g (x ∷ xs) h = omega (arith, one-more f x xs, one-more g x xs, weaker-keeps f g xs h, at-most (f x) (g x) (h x))
 
--- and more, where it alone passes one of them
+-- it keeps more if only it passes one of them
 weaker-keeps-more :
     {X : Type 0} (f g : X → Bool) (xs : List X) (y : X)
     → ((x : X) → f x ≡ true → g x ≡ true) → Contains xs y → f y ≡ false → g y ≡ true → length (filter f xs) < length (filter g xs)
@@ -53,7 +53,7 @@ weaker-keeps-more f g (x ∷ xs) y h (suc k, low, is) out kept =
 
 -- ---- in an order
 
--- no element stands twice
+-- no element occurs twice
 abbrev Apart : List ℕ → Type 0
 Apart [] = Unit {0}
 Apart (x ∷ xs) = (Contains xs x → ⊥) × Apart xs
@@ -63,7 +63,7 @@ less-is Less e = refl
 less-is Equal e = cc
 less-is Greater e = cc
 
--- how many elements stand before one of them
+-- how many elements precede one of them
 abbrev count : (ℕ → ℕ → Ordering) → List ℕ → ℕ → ℕ
 count order xs p = length (filter (λ q. is_lt (order q p)) xs)
 
@@ -72,7 +72,7 @@ abbrev firsts : (ℕ → ℕ → Ordering) → List ℕ → ℕ → List ℕ
 firsts order xs k = filter (λ p. nat_lt (count order xs p) k) xs
 
 module _ (order : ℕ → ℕ → Ordering) (total : IsTotalOrder order) (tied : (x y : ℕ) → order x y ≡ Equal → x ≡ y) where
-  -- what stands before p stands before each x that p stands before
+  -- what precedes p precedes each x that p precedes
   before-before : (x p : ℕ) → order p x ≡ Less → (q : ℕ) → is_lt (order q p) ≡ true → is_lt (order q x) ≡ true
   before-before x p e q h = ap is_lt (total.trans q p x (less-is (order q p) h) e)
 
@@ -82,7 +82,7 @@ module _ (order : ℕ → ℕ → Ordering) (total : IsTotalOrder order) (tied :
   itself-not : (x : ℕ) → is_lt (order x x) ≡ false
   itself-not x = ap is_lt (tied_itself total x)
 
-  -- one element more, before p or behind it
+  -- one more element, before p or after it
   counts-behind :
       (x p : ℕ) (xs : List ℕ) → order p x ≡ Less
       → (count order (x ∷ xs) p ≡ count order xs p) × (Contains xs p → count order xs p < count order xs x)
@@ -118,7 +118,7 @@ module _ (order : ℕ → ℕ → Ordering) (total : IsTotalOrder order) (tied :
   apart-from : (x p : ℕ) (xs : List ℕ) → (Contains xs x → ⊥) → Contains xs p → x ≡ p → ⊥
   apart-from x p xs n c e = n (subst (λ z. Contains xs z) (sym e) c)
 
-  -- where x itself is one of the first k, they are k - 1 of the others beside it
+  -- if x itself is one of the first k, k - 1 of the others are too
   with-it :
       (x : ℕ) (xs : List ℕ) (k : ℕ) → (Contains xs x → ⊥) → count order xs x < k
       → AllByRecursion (λ p. nat_lt (count order (x ∷ xs) p) k ≡ nat_lt (count order xs p) (k - 1)) xs
@@ -135,7 +135,7 @@ module _ (order : ℕ → ℕ → Ordering) (total : IsTotalOrder order) (tied :
       same p e (inl h) = lt-ltb _ _ (omega (arith, e, h)) ∙ sym (lt-ltb _ _ h)
       same p e (inr h) = le-ltb _ _ (omega (arith, e, h)) ∙ sym (le-ltb _ _ h)
 
-  -- where it is none of them, they are those of the others
+  -- if it isn't, all of the first k are among the others
   without-it :
       (x : ℕ) (xs : List ℕ) (k : ℕ) → (Contains xs x → ⊥) → k ≤ count order xs x
       → AllByRecursion (λ p. nat_lt (count order (x ∷ xs) p) k ≡ nat_lt (count order xs p) k) xs
@@ -194,7 +194,7 @@ ranks-tied me u x y = go (slice_cmp nat_cmp (rank_of me u x) (rank_of me u y))
     go Equal e = even (nat_cmp x y) refl e
     go Greater e = cc
 
--- the order in which peers stand
+-- the order of peers
 abbrev ranking : Member → UpdateId → ℕ → ℕ → Ordering
 ranking me u = then_cmp (on (rank_of me u) (slice_cmp nat_cmp)) nat_cmp
 

@@ -1,4 +1,4 @@
--- Where none is evicted, the block of an update goes to each peer of its fan-out at two ticks, and at no other input.
+-- If none is evicted, the block of an update is sent to each peer of its fan-out at two ticks, and at no other input.
 use Rattle.bar_rules.specs.Broadcaster.Party.{IsBroadcaster}
 use Rattle.bar_rules.specs.Broadcaster.Sending.{evicted, served, caster_signed, send_all, announce_by, announce, announce_manifest, announce_evictions, repeat_all, repeat_manifest, repeats_manifest, send_block, send_blocks, caster_tick, evict_by, judge_body, judge_datagram, caster_take, caster_step, caster_log_after}
 use Rattle.bar_rules.specs.Broadcaster.Stream.{round_blocks, manifest_list, caster_table, is_in_fanout, peers_of}
@@ -68,7 +68,7 @@ block-state : (ps : List ℕ) (out : Out) (v : UpdateId) (block : List ℕ) → 
 block-state [] out v block = refl
 block-state (p ∷ ps) out v block = block-state ps (sending out p (block_for p v block)) v block
 
--- of the update
+-- a block of the update
 block-goes :
     (u : UpdateId) (ps : List ℕ) (out : Out) (v : UpdateId) (block : List ℕ) → is_block_of u (Block v block) ≡ true
     → receivers u (send_block out ps v block).sends ≡ receivers u out.sends ++ ps
@@ -78,7 +78,7 @@ block-goes u (p ∷ ps) out v block e =
     ∙ ap (λ front. front ++ ps) (one-sent u out p (block_for p v block) true e)
     ∙ append_assoc (receivers u out.sends) (p ∷ []) ps
 
--- of another one
+-- a block of another update
 other-goes :
     (u : UpdateId) (ps : List ℕ) (out : Out) (v : UpdateId) (block : List ℕ) → is_block_of u (Block v block) ≡ false
     → receivers u (send_block out ps v block).sends ≡ receivers u out.sends
@@ -110,7 +110,7 @@ others-go me u m i (b ∷ blocks) out none =
     others-go me u m (i + 1) blocks _ (λ j low. none j (omega (arith, low)))
     ∙ other-goes u (fanout_at me (update m i) out.state) out (update m i) b (none i (omega arith))
 
--- it is one of them
+-- the update is one of them
 its-block-goes :
     (me : Member) (u : UpdateId) (m i : ℕ) (blocks : List (List ℕ)) (out : Out)
     → m ≡ u.round → i ≤ u.index → u.index < i + length blocks
@@ -148,7 +148,7 @@ its-block-goes me u m i (b ∷ blocks) out same low high =
 
 -- ---- what is announced is no block
 
--- what leaves no block of the update behind, and takes no time
+-- what sends no block of the update, and takes no tick
 record Passes (u : UpdateId) (before after : Out) : Type 0 where
   time : ticks after.state ≡ ticks before.state
   sends : receivers u after.sends ≡ receivers u before.sends
@@ -189,7 +189,7 @@ announced-passes me u out leaf round body n = go (first_said test out.state) ref
         passes-on u out said _ (record { time = omega arith; sends = refl })
         (all-pass u (served me.session out.state) said d (no-block u body n))
 
--- nor is a manifest that goes out again
+-- a repeated manifest isn't one either
 repeated-passes : (s : Session) (u : UpdateId) (out : Out) (round : ℕ) → Passes u out (repeat_manifest s round out)
 repeated-passes s u out round = go (first_said test out.state) refl
   where
@@ -205,7 +205,7 @@ repeated-passes s u out round = go (first_said test out.state) refl
 
 -- ---- one tick
 
--- at the tick the update's block goes out
+-- at this tick the update's block is sent
 abbrev is_due : UpdateId → ℕ → Bool
 is_due u time = eqb (round_after time) u.round && (eqb (slot_after time) 1 || eqb (slot_after time) 5)
 
@@ -295,7 +295,7 @@ at-tick me stream u log is =
     go false c false e false f false g true h = blocks (eqb m u.round) refl h
     go false c false e false f false g false h = quiet _ (and_right (eqb m u.round) _ h) (record { time = refl; sends = refl })
 
--- ---- where none is evicted, all are served
+-- ---- if none is evicted, all are served
 
 all-served :
     {A : Type 0} (f : ℕ → Option A) (ps : List ℕ)
@@ -340,9 +340,9 @@ to-the-fanout me stream is inputs u released none round slot =
     ∙ ap (λ b. cond b (fanout_at me u (Ticked ∷ log)) []) (due-in u (ticks log + 1) round slot)
     ∙ fanout-served me u log none
 
--- ---- how many blocks went out by a time
+-- ---- how many blocks were sent by a time
 
--- once from its tick on
+-- one more from its tick on
 abbrev since : ℕ → ℕ → ℕ → ℕ
 since start many time = cond (nat_le start time) many 0
 
@@ -366,7 +366,7 @@ since-now : (start many time : ℕ) → time + 1 ≡ start → since start many 
 since-now start many time e =
     omega (arith, since-then start many (time + 1) (omega (arith, e)), since-not start many time (omega (arith, e)))
 
--- the block goes out at two ticks
+-- the block is sent at two ticks
 gone-next :
     (u : UpdateId) (to : List ℕ) (many time : ℕ) → 1 ≤ u.round → length to ≡ many
     → length (cond (is_due u (time + 1)) to []) + gone_by u many time ≡ gone_by u many (time + 1)
@@ -403,7 +403,7 @@ gone-next u to many time low long = go (cases_eq (time + 1) (8 * u.round - 6)) (
 
 -- ---- one input
 
--- what an input sends is what went out between
+-- an input sends the difference of what was sent after it and before it
 abbrev Counts : Member → UpdateId → Log → Out → Type 0
 Counts me u log out =
     length (receivers u out.sends) + gone_by u me.session.fanout (ticks log) ≡ gone_by u me.session.fanout (ticks out.state)
@@ -493,7 +493,7 @@ blocks-more u number sends rest =
     ∙ length-append (blocks_in u (numbered number sends)) (blocks_in u rest)
     ∙ ap (λ n. n + length (blocks_in u rest)) (numbered-blocks u number sends)
 
--- where none is evicted in the end, none was before, and what was sent is what went out by then
+-- if none is evicted at the end, none was before, and what was sent is what had been sent by that time
 record CountsOn (me : Member) (stream : List ℕ) (u : UpdateId) (log : Log) (number : ℕ) (inputs : List Input) : Type 0 where
   none : evicted me.session log ≡ []
   count :

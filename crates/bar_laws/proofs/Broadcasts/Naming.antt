@@ -1,4 +1,4 @@
--- Whom a notice of evictions names, evidence is kept against.
+-- Evidence is kept against each party that a notice of evictions names.
 use Rattle.bar_rules.specs.Broadcaster.Sending.{announce, announce_by, announce_evictions, announce_manifest, caster_signed, caster_step, caster_take, caster_tick, evicted, repeat_manifest, repeats_manifest, send_block, send_blocks, served}
 use Rattle.bar_rules.specs.Broadcaster.Stream.{is_in_fanout, manifest_list, peers_of, round_blocks}
 use Rattle.bar_rules.specs.Member.{Member}
@@ -25,7 +25,7 @@ use Rattle.bar_laws.proofs.Logs.{SaidIn, no-value, some-equal}
 abbrev names : Body → ℕ → Bool
 names b q = list_any (λ p. eqb p q) (evictions_in b)
 
--- each party that a said notice names is kept against
+-- evidence is kept against each party that a signed notice names
 abbrev pub NamesKept : Log → Type 0
 NamesKept log = (d : Datagram) → SaidIn log d → (q : ℕ) → names d.message.body q ≡ true → is_some (kept log q) ≡ true
 
@@ -75,7 +75,7 @@ announce-names me out leaf m body h f = go (first_said (has_kind_and_round (kind
 manifest-names : (me : Member) (stream : List ℕ) (m : ℕ) (out : Out) → NamesKept out.state → NamesKept (announce_manifest me stream m out).state
 manifest-names me stream m out h = announce-names me out (2 * (m - 1)) m (Manifest m (manifest_list me.session stream m)) h (λ q e. cc)
 
--- who stands in a filtered list passes
+-- each element of a filtered list passes
 any-passes : (p : ℕ → Bool) (xs : List ℕ) (q : ℕ) → list_any (λ x. eqb x q) (filter p xs) ≡ true → p q ≡ true
 any-passes p [] q e = cc
 any-passes p (x ∷ xs) q e = go (p x) refl e (any-passes p xs q)

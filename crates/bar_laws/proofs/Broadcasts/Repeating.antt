@@ -1,4 +1,4 @@
--- The manifest of the round before is said again in slot 2, and a peer that lacks it admits it.
+-- The manifest of the round before is sent again in slot 2, and a peer that lacks it admits it.
 use Rattle.bar_laws.specs.Broadcasting.{AdmitsLateManifests, RepeatsManifests, SignsOnce, manifest_of, said_again}
 use Rattle.bar_lms.specs.Schemes.{leaves_by}
 use Rattle.bar_rules.specs.Broadcaster.Sending.{caster_log_after, caster_step, repeat_all, repeat_manifest, repeats_manifest, served}

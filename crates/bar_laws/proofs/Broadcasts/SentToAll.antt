@@ -1,4 +1,4 @@
--- A datagram to some peers, as a list behind what was sent so far.
+-- A datagram to several peers, as a list after what was sent so far.
 use Rattle.bar_rules.specs.Broadcaster.Sending.{repeat_all, repeat_manifest, send_all, served}
 use Rattle.bar_rules.specs.Member.{Session}
 use Rattle.bar_rules.specs.Peer.Log.{Log, first_said, has_kind_and_round}
@@ -22,7 +22,7 @@ no-more out = λ i. record { state = out.state; sends = sym (append-nil out.send
 pub one-more : (out : Outcome Log) (p : ℕ) (d : Datagram) (rest : Sends) → with_sends (sending out p d) rest ≡ with_sends out ((p, d) ∷ rest)
 one-more out p d rest = λ i. record { state = out.state; sends = append_assoc out.sends ((p, d) ∷ []) rest i; contents = out.contents }
 
--- the same to each
+-- the same datagram to each of them
 abbrev pub to_each : List ℕ → Datagram → Sends
 to_each ps d = map (λ p. (p, d)) ps
 
@@ -34,7 +34,7 @@ all-flat out (p ∷ ps) d = all-flat (sending out p d) ps d ∙ one-more out p d
 pub all-state : (out : Outcome Log) (ps : List ℕ) (d : Datagram) → (send_all out ps d).state ≡ out.state
 all-state out ps d = ap (λ (o : Outcome Log). o.state) (all-flat out ps d)
 
--- a manifest that goes out again is sent, and that is all
+-- a repeated manifest is sent, and nothing else happens
 pub repeat-flat : (s : Session) (round : ℕ) (out : Outcome Log) → (sends : Sends) × (repeat_manifest s round out ≡ with_sends out sends)
 repeat-flat s round out = go (first_said (has_kind_and_round kinds.Manifest round) out.state)
   where

@@ -1,4 +1,4 @@
--- Each datagram that the broadcaster sends goes to a peer that isn't evicted.
+-- Each datagram that the broadcaster sends is for a peer that isn't evicted.
 use Rattle.bar_laws.specs.Broadcasting.{ServesTheOthers}
 use Rattle.bar_rules.specs.Broadcaster.Party.{IsBroadcaster}
 use Rattle.bar_rules.specs.Broadcaster.Sending.{caster_tick, caster_take, caster_step, caster_log_after}
@@ -18,7 +18,7 @@ use Rattle.bar_laws.proofs.Runs.{ticked-low}
 use Rattle.bar_laws.proofs.Broadcasts.Steps.{IsKept, IsServed, tick-keeps}
 use Rattle.bar_bytes.proofs.Options.{or-none}
 
--- since a log nobody was evicted, and what was sent goes to peers that it serves
+-- nobody was evicted since a log, and what was sent is for peers that it serves
 abbrev pub Serves : Member → Log → Out → Type 0
 Serves me log out = ((q : ℕ) → kept out.state q ≡ kept log q) × AllByRecursion (λ (send : ℕ × Datagram). IsServed me.session log send.0) out.sends
 

@@ -66,7 +66,7 @@ HasManifest me stream round log = first_said (has_kind_and_round kinds.Manifest 
 abbrev HasManifests : Member → List ℕ → Log → Type 0
 HasManifests me stream log = (round : ℕ) → 1 ≤ round → round ≤ me.session.shape.rounds → round ≤ round_now log → HasManifest me stream round log
 
--- what was said as the manifest of a round is it
+-- the manifest of a round that was said is the stream's
 said-manifest : (me : Member) (stream : List ℕ) (m : ℕ) (log : Log) (d : Datagram) → Signs me stream log → first_said (has_kind_and_round kinds.Manifest m) log ≡ Some d → d ≡ manifest_of me stream m
 said-manifest me stream m log d h e =
     let was = first_said-was (has_kind_and_round kinds.Manifest m) log d e in
@@ -120,7 +120,7 @@ first-tick me stream out is low high slot h = subst (λ z. HasManifest me stream
 
 -- ---- one input
 
--- the log has grown, and no tick came
+-- the log has grown, without a tick
 abbrev Grows : Log → Log → Type 0
 Grows log new = IsLater new log × (ticks new ≡ ticks log)
 
@@ -193,7 +193,7 @@ new-at : (later before : Log) (d : Datagram) → AreNew (later ++ Said d ∷ bef
 new-at [] before d h = h.0
 new-at (x ∷ later) before d h = new-at later before d (new-rest x (later ++ Said d ∷ before) h)
 
--- of a kind and round one message is said
+-- one message of each kind and round is said
 not-again : (x : Entry) (log : Log) (d e : Datagram) → AreNew (x ∷ log) → x ≡ Said d → SaidIn log e → kind_of d.message.body ≡ kind_of e.message.body → round_of d.message.body ≡ round_of e.message.body → ⊥
 not-again x log d e h is said kind round =
     let new : IsNew log d.message.body = (subst (λ y. AreNew (y ∷ log)) is h).0 in
@@ -207,7 +207,7 @@ once (x ∷ log) d e h (inl p) (inr q) kind round = absurd (not-again x log d e 
 once (x ∷ log) d e h (inr p) (inl q) kind round = absurd (not-again x log e d h q p (sym kind) (sym round))
 once (x ∷ log) d e h (inr p) (inr q) kind round = once log d e (new-rest x log h) p q kind round
 
--- a leaf tells the kind and the round
+-- a leaf determines the kind and the round
 leaf-tells : (me : Member) (stream : List ℕ) (b c : Body) → IsAnnouncement me stream b → IsAnnouncement me stream c → 1 ≤ round_of b → 1 ≤ round_of c → caster_leaf b ≡ caster_leaf c → (kind_of b ≡ kind_of c) × (round_of b ≡ round_of c)
 leaf-tells me stream (Manifest r ds) (Manifest q es) a b low below e = (refl, omega (arith, low, below, e))
 leaf-tells me stream (Evict r ps) (Evict q qs) a b low below e = (refl, omega (arith, low, below, e))

@@ -1,4 +1,5 @@
--- What an input adds to the broadcaster's log, and what it sends, one thing after another: what each of these keeps holds after the input.
+-- What an input adds to the broadcaster's log, and what it sends, one thing after another: each property that these keep holds after the
+-- input.
 use Rattle.bar_laws.specs.Broadcasting.{IsSignedInTime, manifest_of}
 use Rattle.bar_lms.specs.Schemes.{leaves_by}
 use Rattle.bar_rules.specs.Broadcaster.Party.{IsBroadcaster}
@@ -36,11 +37,11 @@ served-all s log = all-of (IsServed s log) (served s log) (λ p c.
     let peer = served-are-peers s log p c in
     ((omega (arith, peer.0), peer.1), not_some (kept log p) (All-contains (λ q. is_none (kept log q) ≡ true) (served s log) p (filter_passes (λ q. is_none (kept log q)) (peers_of s)) c)))
 
--- none of the kind and round of a body was said
+-- no message of the kind and round of a body was said
 abbrev pub IsNew : Log → Body → Type 0
 IsNew log body = first_said (has_kind_and_round (kind_of body) (round_of body)) log ≡ None
 
--- what is kept by a datagram that is sent to a peer that isn't evicted, and by one that is said in time and is new
+-- properties that are kept by a datagram that is sent to a peer that isn't evicted, and by one that is said in time and is new
 pub record IsKept (me : Member) (stream : List ℕ) (P : Out → Type 0) : Type 0 where
   pub sent : (out : Out) (to : ℕ) (d : Datagram) → IsServed me.session out.state to → P out → P (sending out to d)
   pub said : (out : Out) (d : Datagram) → IsSignedInTime me stream out.state d → IsNew out.state d.message.body → P out → P (record out { state = Said d ∷ out.state })
@@ -68,7 +69,7 @@ announce-keeps me stream P k out leaf body may h = go (first_said (has_kind_and_
     go (Some c) e = all-keep me stream P k out (served me.session out.state) c (served-all me.session out.state) h
     go None e = all-keep me stream P k (record out { state = Said d ∷ out.state }) (served me.session out.state) d (served-those me.session out.state d) (k.said out d may e h)
 
--- a manifest that was said goes out again
+-- a manifest that was said is sent again
 repeat-keeps : (me : Member) (stream : List ℕ) (P : Out → Type 0) → IsKept me stream P → (round : ℕ) (out : Out) → P out → P (repeat_manifest me.session round out)
 repeat-keeps me stream P k round out h = go (first_said (has_kind_and_round kinds.Manifest round) out.state)
   where
@@ -104,7 +105,7 @@ evict-in-time me stream log m is low high begun some =
 
 -- ---- the tick
 
--- it keeps that a round has begun
+-- if a property is kept, so is the property together with a round having begun
 pub kept-begun : (me : Member) (stream : List ℕ) (P : Out → Type 0) (m : ℕ) → IsKept me stream P → IsKept me stream (λ out. (m ≤ round_now out.state) × P out)
 kept-begun me stream P m k = record { sent = λ out to d s h. (h.0, k.sent out to d s h.1); said = λ out d s n h. (omega (arith, h.0), k.said out d s n h.1) }
 

@@ -1,4 +1,4 @@
--- With a party that never gives its KEY the exchanges are few, and so is what is opened in them.
+-- Few exchanges are with a party that never gives its KEY, and little is opened in them.
 use Rattle.bar_terms.specs.Terms.{promise, can_promise}
 use Rattle.bar_wire.specs.Datagram.{Datagram, Body, Request, Query, Briefcase, is_of, kind_number, round_of}
 use Rattle.bar_wire.specs.Inputs.{Input}
@@ -48,7 +48,7 @@ initiator-own me y e = go (eqb y.initiator me.party) refl e
     go true f g = eqb-true y.initiator me.party f
     go false f g = cc
 
--- Its rounds by side, and its parties.
+-- The rounds of an exchange by its side, and its parties.
 record IsEarly (me : Member) (party round : ℕ) (y : Exchange) : Type 0 where
   low : round ≤ y.round
   partner : partner_in me y ≡ party
@@ -135,7 +135,7 @@ few-kinds : (k : XKind) → kind_code k ≤ 1
 few-kinds Balanced = omega arith
 few-kinds Push = omega arith
 
--- one side, round and kind is one exchange
+-- a side, round and kind determine one exchange
 one-place : (me : Member) (party round : ℕ) (y z : Exchange) → IsEarly me party round y → IsEarly me party round z → y.kind ≡ z.kind → place_by_side (role_of me y) (y.round - round) ≡ place_by_side (role_of me z) (z.round - round) → y ≡ z
 unfolding place_by_side
 one-place me party round y z v w kind e = go (role_of me y) (role_of me z) refl refl e
@@ -214,7 +214,7 @@ sum-few f cap (x ∷ xs) (suc n) k h =
     let rest : sum_by f xs ≤ n * cap = sum-few f cap xs n k (omega (arith, h)) in
     omega (arith, rest, k x, sum_by-cons f x xs)
 
--- ---- who owes isn't served
+-- ---- a debtor isn't served
 
 pub serves-no-debtor : (me : Member) (inputs : List Input) → ServesNoDebtor me inputs
 serves-no-debtor me inputs = record {

@@ -24,7 +24,7 @@ contains-more (x ∷ new) before e c = let d = contains-more new before e c in (
 contains-later : (log before : Log) (e : Entry) → IsLater log before → Contains before e → Contains log e
 contains-later log before e later c = subst (λ l. Contains l e) (sym later.split) (contains-more later.new before e c)
 
--- of two entries one stands behind the other, or they are one
+-- of two entries, one is after the other, or they are the same
 compare-places : (a : Log) (x : Entry) (b c : Log) (y : Entry) (d : Log) → a ++ x ∷ b ≡ c ++ y ∷ d → IsLater b (y ∷ d) ⊎ ((x ≡ y) ⊎ IsLater d (x ∷ b))
 compare-places [] x b [] y d e = inr (inl (cc))
 compare-places [] x b (z ∷ c) y d e = inl (record { new = c; split = cc })
@@ -33,7 +33,7 @@ compare-places (w ∷ a) x b (z ∷ c) y d e = let rest : a ++ x ∷ b ≡ c ++ 
 
 -- ---- moments
 
--- Behind the KEY no exchange with the party begins while it owes.
+-- After the KEY no exchange with the party begins while it owes.
 pub outside-debt : (me : Member) (log : Log) (x : Exchange) (w : IsNeverPaid me log x) (before : Log) (e : Entry) → IsObedient me log → IsEntry log before e → BeginsWith (partner_in me x) e → Contains before (Said w.key)
     → (round_now before < x.round + 2) ⊎ (x.round + me.session.shape.life < round_now before)
 outside-debt me log x w before e h place b c = early (cases_lt (round_now before) (x.round + 2))
@@ -73,7 +73,7 @@ begins-no-key (Request r seed c) e = refl
 begins-no-key (Query r seed young aged) e = refl
 begins-no-key _ e = cc
 
--- where the KEY was said a round after its exchange's at the latest, all begin by then or when the debt is past
+-- if the KEY was said at most a round after its exchange's, all exchanges begin by then or when the debt is past
 pub begins-early : (me : Member) (log : Log) (x : Exchange) (w : IsNeverPaid me log x) (before : Log) (e : Entry) → IsObedient me log → round_now w.earlier ≤ x.round + 1 → IsEntry log before e → BeginsWith (partner_in me x) e
     → (round_now before ≤ x.round + 1) ⊎ (x.round + me.session.shape.life < round_now before)
 begins-early me log x w before e h soon place b = go (compare-places place.after e before w.later (Said w.key) w.earlier (sym place.split ∙ w.split))

@@ -1,4 +1,4 @@
--- Of a party that owes a key no request is admitted, and no exchange with it begins.
+-- No request from a party that owes a key is admitted, and no exchange with it begins.
 use Rattle.bar_wire.specs.Datagram.{Datagram, Body, Request, Query}
 use Rattle.bar_rules.specs.Member.{Member}
 use Rattle.bar_rules.specs.Peer.Admission.{is_row_met, is_admitted}

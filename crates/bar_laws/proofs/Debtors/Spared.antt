@@ -1,4 +1,4 @@
--- At a tick a party that owes a key is sent no request but those that were said before.
+-- At a tick the only requests that a party that owes a key is sent are those that were said before.
 use Rattle.bar_wire.specs.Datagram.{Datagram, Body, Divulge, KeyReq, Evidence, is_of}
 use Rattle.bar_wire.specs.Inputs as event
 use Rattle.bar_wire.specs.declared.kind.Kind.{Kind}
@@ -33,7 +33,7 @@ use Rattle.bar_laws.proofs.Runs.{said-contains}
 abbrev IsOld : ℕ → Log → ℕ × Datagram → Type 0
 IsOld party log s = s.0 ≡ party → begins s.1.message.body ≡ true → Contains log (Said s.1)
 
--- So it is of all that is sent, and of all that has been said.
+-- this holds for all that is sent, and for all that has been said
 record Spares (party : ℕ) (log : Log) (out : Out) : Type 0 where
   sends : AllByRecursion (IsOld party log) out.sends
   said : (d : Datagram) → SaidIn out.state d → IsOld party log (d.message.to, d)
@@ -72,7 +72,7 @@ reports-nothing : (o : Option (List (List ℕ))) (b : Body) → option_map Evide
 reports-nothing None b e = cc
 reports-nothing (Some v) b e = let same : Evidence v ≡ b = cc in sym (ap begins same)
 
--- an order of a tick that asks others
+-- an order of a tick that asks other parties
 abbrev Spared : Member → ℕ → Order → Type 0
 Spared me party (Ask x) = partner_in me x ≡ party → ⊥
 Spared me party (Answer x) = ⊥
@@ -94,7 +94,7 @@ spares-all : (party : ℕ) (log : Log) (me : Member) (os : List Order) (out : Ou
 spares-all party log me [] out f s = s
 spares-all party log me (o ∷ os) out f s = spares-all party log me os (perform me out o) f.1 (spares-perform party log me out o f.0 s)
 
--- the orders of a tick ask nobody who owes
+-- the orders of a tick ask no party that owes
 tick-spared : (me : Member) (k : Knowledge) (party : ℕ) → owes me k party ≡ true → AllByRecursion (Spared me party) (orders_at_tick me k)
 tick-spared me k party h =
     tick-all (Spared me party) (λ x. Unit {0}) me k (all-of (λ x. Unit {0}) k.opens (λ x c. tt)) (λ x r. again-all (Spared me party) me k x tt (λ _. (tt, tt)) (λ _. tt)) asks (λ q. tt)

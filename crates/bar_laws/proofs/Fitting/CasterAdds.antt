@@ -29,7 +29,7 @@ use Rattle.std.specs.List.{AllByRecursion}
 use Rattle.std.proofs.lemmas.Bool.{leb-true, ltb-true}
 use Rattle.bar_wire.proofs.Lists.{AllByRecursion-push}
 
--- a body that a party signs: no evidence, and a manifest only as the stream has it
+-- a body that a party signs: no evidence, and a manifest only if it is the stream's
 abbrev pub IsOwnBody : Session → List ℕ → Body → Type 0
 IsOwnBody s stream (Manifest r ds) = ds ≡ manifest_list s stream r
 IsOwnBody s stream (Evidence ds) = ⊥
@@ -44,7 +44,7 @@ abbrev pub IsOfBegunRound : Log → Body → Type 0
 IsOfBegunRound log (Manifest r ds) = r ≤ round_now log
 IsOfBegunRound log _ = Unit {0}
 
--- what a party signs is its own, and in the grammar
+-- what a party signs is from the party, and in the grammar
 pub record IsOwnMessage (s : Session) (stream : List ℕ) (party : ℕ) (d : Datagram) : Type 0 where
   pub from : d.message.from ≡ party
   pub body : IsOwnBody s stream d.message.body
@@ -55,7 +55,7 @@ pub record IsOwnMessage (s : Session) (stream : List ℕ) (party : ℕ) (d : Dat
 abbrev pub AreOwn : Session → List ℕ → Log → Type 0
 AreOwn s stream log = (d : Datagram) → SaidIn log d → IsOwnMessage s stream 0 d × IsOfBegunRound log d.message.body
 
--- each piece of evidence that is kept was shown under the table of its moment
+-- each piece of evidence that is kept was shown under the table at that moment
 abbrev pub IsFair : Member → List ℕ → Log → Type 0
 IsFair me stream [] = Unit {0}
 IsFair me stream (Kept q ev ∷ log) = ((f : Fault) × (verdict me.session (caster_table me stream log) ev ≡ Shown q f)) × IsFair me stream log
@@ -72,7 +72,7 @@ pub record Casts (me : Member) (stream : List ℕ) (log : Log) (o : Option Datag
   pub fair : IsFair me stream out.state
   pub fits : AllFit me.session out.sends
 
--- a round that has begun stays so
+-- a round that has begun has begun ever after
 round-grows : (x : Entry) (log : Log) → round_now log ≤ round_now (x ∷ log)
 round-grows Ticked log = omega arith
 round-grows (Heard d) log = omega arith
@@ -129,7 +129,7 @@ casts-announce me stream log o out leaf round body plain begun fits accepted a =
     go (Some c) e = casts-all me stream log o (served me.session out.state) out c a (said-in out.state c (first_said-was (has_kind_and_round (kind_of body) round) out.state c e).0)
     go None e = casts-all me stream log o (served me.session out.state) said d grown (inl refl)
 
--- a manifest that was said goes out again
+-- a manifest that was said is sent again
 casts-repeat : (me : Member) (stream : List ℕ) (log : Log) (o : Option Datagram) (out : Out) (round : ℕ) → Casts me stream log o out → Casts me stream log o (repeat_manifest me.session round out)
 casts-repeat me stream log o out round a = go (first_said test out.state) refl
   where

@@ -24,7 +24,7 @@ use Rattle.bar_bytes.proofs.Lengths.{length_u16}
 
 -- ---- lists
 
--- what holds of each element holds of each that is there
+-- what holds of all elements holds of each element that is there
 all-at : {X : Type 0} (P : X → Type 0) (xs : List X) (x : X) → AllByRecursion P xs → Contains xs x → P x
 all-at P xs x a c = All-contains P xs x (All-from_recursion P xs a) c
 
@@ -36,7 +36,7 @@ length-filtered p (x ∷ xs) = go (p x) (length-filtered p xs)
     go true h = omega (arith, h)
     go false h = omega (arith, h)
 
--- ---- some of a run of numbers
+-- ---- a part of a range of numbers
 
 abbrev Between : ℕ → ℕ → ℕ → Type 0
 Between low high n = (low ≤ n) × (n ≤ high)
@@ -49,7 +49,7 @@ between-kept p low high a (suc n) from to = go (p a) (between-kept p low high (a
     go true h = ((from, omega (arith, to)), h)
     go false h = h
 
--- they rise
+-- its numbers rise
 kept-rise : (p : ℕ → Bool) (high low a n : ℕ) → low < a → a + n ≤ high + 1 → RisesTo high low (filter p (range_with_len a n))
 kept-rise p high low a zero from to = tt
 kept-rise p high low a (suc n) from to = go (p a) (λ l h. kept-rise p high l (a + 1) n h (omega (arith, to)))

@@ -153,7 +153,7 @@ report-fits me out q is h a = go (kept out.state q) refl
     go None e = a
     go (Some v) e = AllByRecursion-push (Fits me) out.sends (0, unsigned (record { from = me.party; to = 0; body = Evidence v })) a (evidence-fits me out.state q v is h e)
 
--- what stood before an order is obedient where what stands after it is
+-- if the log after an order is obedient, so is the log before it
 say-before : (me : Member) (out : Out) (kind : Kind) (x : Exchange) (b : Option Body) → IsObedient me (say me out kind x b).state → IsObedient me out.state
 say-before me out kind x b h = go (first_said (is_of kind x (role_of me x)) out.state) b h
   where

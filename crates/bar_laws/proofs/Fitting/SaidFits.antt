@@ -1,4 +1,4 @@
--- Each message that a member may sign is as the grammar has it, where all that was said or heard before is.
+-- Each message that a member may sign is in the grammar, if everything that was said or heard before is.
 use Rattle.bar_session.specs.Limits.{most_long_rounds}
 use Rattle.bar_wire.specs.Bodies.{briefcase_in, history_in, offer_in, reply_in}
 use Rattle.bar_wire.specs.declared.kind.Kind.{Kind}
@@ -36,7 +36,7 @@ use Rattle.std.proofs.lemmas.List.FromFn.{length-range_with_len}
 use Rattle.bar_laws.proofs.Logs.{no-value, party-on, party-over, kind-on, role-own, is_of-is, sign-elsewhere, length-chain_back, length-briefcase_key, length-commitment_of, partner_low, partner_high, promises_equal, promises_some, promises_few, terms_promise, length_sealed, IsFormed, IsBetween, AllFormed, spoken-in, formed-between, party-peer, round-by, told, told-answer, told-offer, told-reply, revealed-formed, fits-formed, heard-fits, some-is, first_heard-was, spoken_in, heard-spoken, set-filter, set-take, history-set, young-set, aged-set}
 use Rattle.bar_laws.proofs.Judging.{AllHeld, promise-held, blocks-whole, trade-of, offer-of}
 
--- what a member says to a party is as the grammar has it
+-- what a member says to a party is in the grammar
 record IsSaidWell (me : Member) (to : ℕ) (b : Body) : Type 0 where
   form : HasForm me.session.shape b
   range : InRange me.session.shape b
@@ -122,7 +122,7 @@ terms-formed me log x (forms.Push young aged want give junk) all e =
 
 -- ---- a CASE
 
--- held blocks are whole, so that they are sealed in their length
+-- held blocks have their full length, so they are sealed with their length
 held-told : (me : Member) (log : Log) (us : List UpdateId) → IsObedient me log → AllHeld me.session log us → AllByRecursion (MatchesTable no_lists (block_of me.session log)) us
 held-told me log [] h e = tt
 held-told me log (u ∷ us) h e =
@@ -130,7 +130,7 @@ held-told me log (u ∷ us) h e =
     let b = some-is (block_of me.session log u) p.0 in
     (record { block = b.0; held = b.1; whole = blocks-whole me log u b.0 h b.1; told = inl refl }, held-told me log us h p.1)
 
--- a promise has an item at least and sixteen at most
+-- a promise has from one to sixteen items
 promise-few : (cap : ℕ) (t : Terms) (role : Role) → cap ≤ 16 → can_promise cap t ≡ true → (0 < length (promised_updates cap t role) + promised_junk t role) × (length (promised_updates cap t role) + promised_junk t role ≤ 16)
 promise-few cap t role high ok = (omega (arith, long, (own role).0), omega (arith, long, (own role).1))
   where
@@ -250,7 +250,7 @@ say-well me before to (Case c) is h all other round rule = case-well me before t
 say-well me before to (Key k) is h all other round rule = key-well me before to k is all round rule
 say-well me before to _ is h all other round rule = absurd rule
 
--- what may be signed is a message of an exchange, as the grammar has it
+-- what may be signed is a message of an exchange, in the grammar
 pub sign-formed : (me : Member) (before : Log) (m : Message) → IsMember me → IsObedient me before → AllFormed me before → MaySign me before m → IsFormed me.session.shape m
 sign-formed me before m is h all sign =
     let other : m.to ≡ me.party → ⊥ = sign-elsewhere me before m h sign in
@@ -263,7 +263,7 @@ sign-formed me before m is h all sign =
       other = λ e. other (sym e ∙ sign.mine);
     }
 
--- so each message of an exchange that was said or heard is as the grammar has it
+-- so each message of an exchange that was said or heard is in the grammar
 pub all-formed : (me : Member) (log : Log) → IsMember me → IsObedient me log → AllFormed me log
 all-formed me [] is h d p s e = absurd s
 all-formed me (x ∷ log) is h d p (inr s) e = all-formed me log is h.1 d p s e

@@ -11,7 +11,7 @@ use Rattle.bar_rules.specs.Peer.Sizes.{largest}
 use Rattle.bar_wire.specs.Datagram.{Body, Manifest, Block, Request, Response, Divulge, Query, Reply, Case, KeyReq, Key, Evidence, Evict, is_signed, kind_of}
 use Rattle.bar_wire.specs.Grammar.{is_wide}
 use Rattle.bar_wire.specs.Places.{window_len}
-use Rattle.bar_seal.specs.Memo.{most_datagram}
+use Rattle.bar_seal.specs.Code.Memo.{most_datagram}
 use Rattle.bar_laws.specs.Sizes.{SignedAreShort}
 use Rattle.bar_laws.proofs.Fitting.Largest.{fits-largest}
 

@@ -1,4 +1,4 @@
--- A briefcase and a key that opens it badly show their sender, and are completed as evidence.
+-- A briefcase and a key that opens it badly show a fault of their sender, and are completed as evidence.
 use Rattle.bar_wire.specs.Bodies.{briefcase_in, key_in, is_peer_kind}
 use Rattle.std.specs.Bool.{then_some}
 use Rattle.bar_wire.specs.declared.kind.Kind.TheVariants as kinds
@@ -19,7 +19,7 @@ use Rattle.std.specs.List.{list_all}
 use Rattle.std.proofs.lemmas.Bool.{and_from, eq-eqb}
 use Rattle.bar_laws.proofs.Logs.{some-more}
 
--- what makes a pair of a briefcase and a key show a bad opening
+-- under which conditions a pair of a briefcase and a key shows a bad opening
 pub record IsBadPair (s : Session) (t : Table) (d e : Datagram) (c : Briefcase) (k : KeyGiven) : Type 0 where
   pub case : d.message.body ≡ Case c
   pub key : e.message.body ≡ Key k
@@ -73,7 +73,7 @@ pub or-second : {A : Type 0} (o p : Option A) → is_some p ≡ true → is_some
 or-second (Some a) p h = refl
 or-second None p h = h
 
--- evidence is completed where the CASE that was heard first and this key make a bad pair
+-- evidence is completed if the CASE that was heard first and this key make a bad pair
 pub bad-completed : (me : Member) (log : Log) (d e : Datagram) (c : Briefcase) (k : KeyGiven)
     → first_heard (is_of kinds.Case (exchange_by k.round k.kind k.role e.message.from e.message.to) k.role) log ≡ Some d → is_tried me (known me log) e ≡ true → IsBadPair me.session (table log) d e c k
     → is_some (new_evidence me (known me log) e) ≡ true

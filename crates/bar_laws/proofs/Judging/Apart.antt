@@ -1,4 +1,4 @@
--- Two datagrams of one sender to one receiver that are of different exchanges show nothing but the leaves of their signatures.
+-- Two datagrams of one sender to one receiver, of different exchanges, show nothing but the leaves of their signatures.
 use Rattle.std.proofs.Common.{◌≡◌, ℕ, Bool, true, false, ◌∷◌, refl, sym, ap, ◌∙◌, ◌&&◌, eqb}
 use Rattle.std.specs.Prelude.{Option, Some, None, option_map}
 use Rattle.std.specs.Bool.{then_some}
@@ -33,7 +33,7 @@ same-part r q k j role side a b c =
     let roles : role ≡ side = same_role_code role side c in
     λ i. Some (a i, kinds i, roles i)
 
--- what peers sign of one identity is of one part of an exchange
+-- messages that peers sign with one identity are of one part of an exchange
 one-part : (a b : Body) (from to : ℕ) → is_peer_kind a ≡ true → is_peer_kind b ≡ true → kind_number a ∷ named a from to ≡ kind_number b ∷ named b from to → part_of a ≡ part_of b
 one-part (Request r s c) (Request q t d) from to p o e = let same : r ≡ q = cc in same-part r q Balanced Balanced Initiator Initiator same refl refl
 one-part (Response r hb) (Response q hc) from to p o e = let same : r ≡ q = cc in same-part r q Balanced Balanced Responder Responder same refl refl
@@ -51,7 +51,7 @@ one-part (Key c) (Key d) from to p o e =
     same-part c.round d.round c.kind d.kind c.role d.role round kind role
 one-part _ _ from to p o e = cc
 
--- so they are of one exchange, where their sender and receiver are
+-- so they are of one exchange, if their sender and receiver are the same
 one-exchange : (m n : Message) → is_peer_kind m.body ≡ true → is_peer_kind n.body ≡ true → m.from ≡ n.from → m.to ≡ n.to → identity_of m ≡ identity_of n → exchange_of m ≡ exchange_of n
 one-exchange m n p q from to e =
     let names : kind_number m.body ∷ named m.body m.from m.to ≡ kind_number n.body ∷ named n.body m.from m.to =
@@ -113,7 +113,7 @@ other-identity d e a = go (bytes_eq (identity_of d.message) (identity_of e.messa
         absurd (both_ways _ a.apart (place-same d.message e.message a.one
         (one-exchange d.message e.message a.one a.two a.from a.to (same_bytes-is _ _ f))))
 
--- ---- what they show
+-- ---- what the two show
 
 no-opening : (s : Session) (t : Table) (d e : Datagram) → AreApart d e → bad_opening s t d.message e.message (briefcase_in d.message.body) (key_in e.message.body) ≡ false
 no-opening s t d e a = go (briefcase_in d.message.body) (key_in e.message.body) refl refl

@@ -1,4 +1,4 @@
--- Where a heard key opens a heard briefcase badly, evidence is kept against their sender.
+-- If a heard key opens a heard briefcase badly, evidence is kept against their sender.
 use Rattle.bar_rules.specs.Peer.Holdings.{case_heard_from}
 use Rattle.bar_wire.specs.Bodies.{briefcase_in, is_peer_kind}
 use Rattle.bar_wire.specs.declared.kind.Kind.TheVariants as kinds
@@ -43,7 +43,7 @@ use Rattle.bar_laws.proofs.Runs.{terms-same}
 
 -- ---- an opening depends on the digests of the promised updates alone
 
--- the tables say the same of an item
+-- two tables say the same of an item
 abbrev SameTold : Table → Table → Item → Type 0
 SameTold old new (Update u) = digest_of old u ≡ digest_of new u
 SameTold old new (Junk t) = Unit {0}
@@ -68,7 +68,7 @@ opening-same id x cap terms role cipher key old new h =
     (findings-same old new (junk_key id x) (promise cap terms role) (opened key cipher)
     (items-same old new (promised_updates cap terms role) (range_with_len 0 (promised_junk terms role)) h))
 
--- what is within a table a longer one says the same of
+-- a longer table says the same of what is within a table
 within-same : (old new : Table) (us : List UpdateId) → Extends old new → is_within old us ≡ true → AllByRecursion (λ u. digest_of old u ≡ digest_of new u) us
 within-same old new [] h e = tt
 within-same old new (u ∷ us) h e = let p = and_parts _ _ e in (known (digest_of old u) refl p.0, within-same old new us h p.1)
@@ -99,7 +99,7 @@ promised-within me log t x (forms.Push young aged want give junk) role ok within
 
 -- ---- a briefcase that was said, and one that was heard
 
--- Terms that this member said a briefcase with: they are those of the log, valid, and promise what is within the table.
+-- Terms with which this member said a briefcase: they are those of the log, valid, and promise what is within the table.
 record SaidTerms (me : Member) (log : Log) (x : Exchange) : Type 0 where
   terms : Terms
   told : terms_of me (known me log) x ≡ Some terms
@@ -126,7 +126,7 @@ said-terms me log x role h e =
           within = λ r. within-extends _ _ (promised_updates me.session.cap c.case.terms r) (table-later log w.before later) (promised-within me w.before (table w.before) x c.case.terms r valid rule.within);
         }
 
--- A briefcase that was admitted can be opened: its terms are valid, its counts those of the promise, which is within the table.
+-- A briefcase that was admitted can be opened: its terms are valid, and its counts are those of the promise, which is within the table.
 pub record HeardBriefcase (me : Member) (log : Log) (x : Exchange) (role : Role) (d : Datagram) : Type 0 where
   pub case : Briefcase
   pub body : d.message.body ≡ Case case
@@ -181,7 +181,7 @@ key-row me before e k admitted is =
     let p = and_parts _ _ row in
     ((and_parts _ _ p.0).1, p.1)
 
--- an admitted key is tried, where no evidence is kept yet
+-- an admitted key is tried, if no evidence is kept yet
 key-tried : (me : Member) (before : Log) (e : Datagram) (k : KeyGiven) → Allows me before (Heard e) → e.message.body ≡ Key k → is_some (kept before e.message.from) ≡ false
     → is_tried me (known me before) e ≡ true
 key-tried me before e k al is none =
@@ -216,14 +216,14 @@ bad-pair me before d e k al is of b bad =
       key_reads = al.1;
     }
 
--- what is opened under a log's table was opened so under that of the log before the key
+-- what is opened under a log's table was opened the same under that of the log before the key
 opened-before : (me : Member) (log before : Log) (x : Exchange) (role : Role) (d : Datagram) (key : List ℕ) → IsLater log before → (b : HeardBriefcase me before x role d)
     → opening_of me.session (table before) x b.case key ≡ opening_of me.session (table log) x b.case key
 opened-before me log before x role d key later b =
     opening-same me.session.shape.id x me.session.cap b.case.terms b.case.role b.case.cipher key (table before) (table log)
     (within-same (table before) (table log) (promised_updates me.session.cap b.case.terms b.case.role) (table-later log before later) b.within)
 
--- evidence is kept where a heard key opens the heard briefcase badly
+-- evidence is kept if a heard key opens the heard briefcase badly
 pub bad-key-kept : (me : Member) (log before : Log) (e : Datagram) (k : KeyGiven) (c : Briefcase) → IsObedient me log → IsWatchful me log → IsEntry log before (Heard e) → e.message.body ≡ Key k
     → case_heard_from log (exchange_by k.round k.kind k.role e.message.from e.message.to) k.role ≡ Some c
     → is_bad (opening_of me.session (table log) (exchange_by k.round k.kind k.role e.message.from e.message.to) c k.key) ≡ true → is_some (kept log e.message.from) ≡ true
@@ -262,7 +262,7 @@ bad-key-kept me log before e k c h watchful place is found bad = go (cases_Bool 
 pub heard-was : (log : Log) (d : Datagram) → Contains log (Heard d) → WasHeard log d
 heard-was log d h = let f = entry-of log (Heard d) h in record { before = f.0; place = f.1 }
 
--- so where a key of an exchange opens the partner's briefcase badly, evidence against the partner is kept
+-- so if a key of an exchange opens the partner's briefcase badly, evidence against the partner is kept
 pub opens-badly-kept : (me : Member) (log : Log) (x : Exchange) (d : Datagram) → IsObedient me log → IsWatchful me log → OpensBadly me log x d → is_some (kept log (partner_in me x)) ≡ true
 opens-badly-kept me log x d h watchful o =
     let w : WasHeard log d = heard-was log d o.heard in

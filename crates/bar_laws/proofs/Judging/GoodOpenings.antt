@@ -21,7 +21,7 @@ use Rattle.std.specs.Str.{bytes_eq}
 use Rattle.std.proofs.lemmas.Bool.{and_parts, and_from, ltb-true, false_from_ne_true}
 use Rattle.bar_window.proofs.Sets.{same_self}
 
--- ---- where none passes there is no place
+-- ---- if none passes, there is no place
 
 prefix-all : {X : Type 0} (p : X → Bool) (xs : List X) → list_all p xs ≡ true → prefix_len p xs ≡ length xs
 prefix-all p [] e = refl
@@ -39,7 +39,7 @@ no-place p xs e =
     let all : position_or_len p xs ≡ length xs = prefix-all (λ x. not (p x)) xs e in
     ap (λ n. cond (nat_lt n (length xs)) (Some n) None) all ∙ ap (λ b. cond b (Some (length xs)) None) (not-below (length xs))
 
--- ---- what a table knows is told
+-- ---- what a table knows is determined
 
 sound-told : (b : Bool) → not (is_untold (sound_if b)) ≡ true
 sound-told true = refl

@@ -1,4 +1,4 @@
--- What was heard came: each admitted datagram is spelled by one of the inputs.
+-- What was heard arrived: each admitted datagram is encoded by one of the inputs.
 use Rattle.bar_rules.specs.Peer.Log.{Log}
 use Rattle.bar_rules.specs.Member.{Session, Member}
 use Rattle.bar_rules.specs.Peer.Run.{step, log_after}
@@ -20,7 +20,7 @@ heard-new me log o (x ∷ new) d a (inr h) = heard-new me log o new d a.1 h
 step-heard : (me : Member) (log : Log) (i : Input) (d : Datagram) → HeardIn (step me log i).state d → (came me i ≡ Some d) ⊎ HeardIn log d
 step-heard me log i d h = let a = step-adds me log i in heard-new me log (came me i) a.new d a.added (subst (λ l. HeardIn l d) a.split h)
 
--- what is spelled in some inputs is spelled in more
+-- what is encoded in some inputs is encoded in more
 spelled-more : (s : Session) (i : Input) (is : List Input) (d : Datagram) → IsSpelledIn s is d → IsSpelledIn s (i ∷ is) d
 spelled-more s i is d c = record { bytes = c.bytes; came = (suc c.came.0, omega (arith, c.came.1), c.came.2); spells = c.spells }
 

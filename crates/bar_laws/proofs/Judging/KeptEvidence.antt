@@ -1,4 +1,4 @@
--- Evidence is tried at each datagram before it is admitted, and what is kept stays shown.
+-- Evidence is tried at each datagram before it is admitted, and what is kept is shown ever after.
 use Rattle.bar_rules.specs.Runs.{begun}
 use Rattle.bar_rules.specs.Peer.Admission.{is_admitted}
 use Rattle.bar_rules.specs.Peer.Evidence.{is_tried, accuses, new_evidence}
@@ -77,7 +77,7 @@ perform_all-watchful me out (o ∷ os) h = perform_all-watchful me (perform me o
 kept-new : (log : Log) (q : ℕ) (e : List (List ℕ)) → is_some (kept (Kept q e ∷ log) q) ≡ true
 kept-new log q e = or-second (kept log q) (then_some (eqb q q) e) (rw (eq-eqb q q refl) refl)
 
--- where evidence against the sender is kept none is tried
+-- if evidence against the sender is kept, none is tried
 pub not-tried : (me : Member) (log : Log) (d : Datagram) → is_some (kept log d.message.from) ≡ true → is_tried me (known me log) d ≡ false
 not-tried me log d h = false_from_ne_true (is_tried me (known me log) d) (λ t. both_ways _ (not-true _ (and_parts _ _ (and_parts _ _ t).0).1) h)
 

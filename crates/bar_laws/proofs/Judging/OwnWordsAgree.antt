@@ -1,4 +1,4 @@
--- The words of two messages that a member signed show no fault.
+-- The contents of two messages that a member signed show no fault.
 use Rattle.bar_wire.specs.Bodies.{briefcase_in, divulge_in, history_in, offer_in, reply_in}
 use Rattle.bar_wire.specs.Kinds.{code_of}
 use Rattle.bar_wire.specs.declared.kind.Kind.{Kind}
@@ -35,7 +35,7 @@ use Rattle.bar_laws.proofs.Runs.{names-itself}
 use Rattle.bar_laws.proofs.Judging.SaidOnce.{said-same, told-said, SaidBriefcase, said-briefcase}
 use Rattle.bar_bytes.proofs.Tests.{bytes_eq-refl}
 
--- ---- the parts of the terms that a log tells
+-- ---- the parts of the terms that a log contains
 
 trade-parts : (a : Option (List ℕ × List UpdateId)) (b : Option (List UpdateId)) (nonce : List ℕ) (ha hb : List UpdateId) → trade_terms a b ≡ Some (forms.Balanced nonce ha hb) → (a ≡ Some (nonce, ha)) × (b ≡ Some hb)
 trade-parts (Some a) (Some b) nonce ha hb e = let p : a.0 ≡ nonce = cc in let q : a.1 ≡ ha = cc in let r : b ≡ hb = cc in (λ i. Some (p i, q i), ap Some r)
@@ -90,7 +90,7 @@ pub when-false : (a b : Bool) → (a ≡ true → b ≡ false) → (a && b) ≡ 
 when-false true b f = f refl
 when-false false b f = refl
 
--- a message that names an exchange is of it
+-- a message that names an exchange is of that exchange
 own-exchange : (m : Message) (x : Exchange) (r : ℕ) (k : XKind) (a : Role) (kind : Kind) → exchange_of m ≡ Some x → kind_number m.body ≡ code_of kind → part_of m.body ≡ Some (r, k, a) → is_of kind x a m ≡ true
 own-exchange m x r k a kind e n part =
     let z : exchange_of m ≡ Some (exchange_by r k a m.from m.to) = ap (λ o. option_map (λ (q : Place). q.exchange) (option_map (place_by m.from m.to) o)) part in
@@ -142,7 +142,7 @@ reply-same me log m x r us vs z (forms.Push young aged want give junk) h w e t =
 word-on : (me : Member) (log : Log) (m : Datagram) (x : Exchange) (role a : Role) → IsOwnWord me log m x role → same_role role a ≡ true → IsOwnWord me log m x a
 word-on me log m x role a w e = subst (λ z. IsOwnWord me log m x z) (same_role-is role a e) w
 
--- a said message's words do not differ from the terms that the log tells of its exchange
+-- the contents of a said message don't differ from the terms that the log has of its exchange
 never-differs : (me : Member) (log : Log) (m : Datagram) (x : Exchange) (role : Role) (terms : Terms) → IsObedient me log → IsOwnWord me log m x role → terms_of me (known me log) x ≡ Some terms
     → differs me.session role m.message.body terms ≡ false
 never-differs me log m x role terms h w t = go m.message.body refl
@@ -210,7 +210,7 @@ never-broken me log m x role terms h w t = go m.message.body refl
     go (Request r seed c) e = when-false _ _ (λ z. commit-same me log m x r seed c terms h (word-on me log m x role Initiator w z) e t)
     go _ e = refl
 
--- ---- no fault by words
+-- ---- no fault by contents
 
 place-same : (m : Message) (x : Exchange) (n : Message) → exchange_of n ≡ Some x → same_place m n ≡ true → exchange_of m ≡ Some x
 place-same m x n e s = go (exchange_of m) (exchange_of n) refl e s
@@ -240,6 +240,6 @@ never-by_case me log m n h p q = go (briefcase_in n.message.body) refl
     go None e = refl
     go (Some c) e = at c (briefcase-is n.message.body c e) _ refl
 
--- two said messages show nothing by their words
+-- two said messages show nothing by their contents
 pub never-by_words : (me : Member) (log : Log) (m n : Datagram) → IsObedient me log → SaidIn log m → SaidIn log n → fault_by_words me.session m.message n.message ≡ None
 never-by_words me log m n h p q = rw (never_twice me log m n h p q) (never-by_case me log m n h p q)

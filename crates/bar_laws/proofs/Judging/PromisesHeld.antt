@@ -1,4 +1,4 @@
--- What a member promises it holds.
+-- A member holds what it promises.
 use Rattle.bar_wire.specs.Bodies.{divulge_in, history_in, offer_in, reply_in}
 use Rattle.bar_rules.specs.Peer.Choices.{wanted_of}
 use Rattle.bar_rules.specs.Peer.Exchanges.{role_of, revealed, revealed_in}
@@ -60,7 +60,7 @@ given-held me before to (Reply r us vs z) t rule f =
     let same : vs ≡ t.1 = cc in rw (← same, rule.gives) (all-take (is_held me.session before) (length (wanted_of me (known me before) rule.young)) _ (all-filter (is_held me.session before) rule.aged))
 given-held me before to b t rule f = absurd (no-value (reply_in b) t refl f)
 
--- so it is held of what the log tells of this member's side
+-- so what the log has of this member's side is held
 told-held : {A : Type 0} (me : Member) (log : Log) (x : Exchange) (role : Role) (kind : Kind) (f : Body → Option A) (a : A) (us : List UpdateId) → IsObedient me log → role_of me x ≡ role
     → ((before : Log) (to : ℕ) (b : Body) → MaySay me (known me before) to b → f b ≡ Some a → AllHeld me.session before us)
     → option_and_then f (body_on me (known me log) kind x role) ≡ Some a → AllHeld me.session log us
@@ -95,7 +95,7 @@ own-history-held me log x a h own e = at (find-of (λ before e. revealed_in me b
     at : IsFind (λ before e. revealed_in me before x e) log a → AllHeld me.session log a.1
     at w = held-later me.session log w.before a.1 (later-entry log w.before w.entry w.place) (by w.before w.entry w.place w.found)
 
--- what this member promises by the terms of its log, it holds
+-- this member holds what it promises by the terms of its log
 pub promise-held : (me : Member) (log : Log) (x : Exchange) (role : Role) (terms : Terms) → IsObedient me log → party_on x role ≡ me.party → role_of me x ≡ role → terms_of me (known me log) x ≡ Some terms
     → AllHeld me.session log (promised_updates me.session.cap terms role)
 promise-held me log x Initiator (forms.Balanced nonce ha hb) h own side t =

@@ -1,4 +1,4 @@
--- Of each kind, one message of a side of an exchange is said; what this member said of its own side is what its log tells.
+-- Of each kind, one message of a side of an exchange is said; what this member said of its own side is what its log has.
 use Rattle.bar_rules.specs.Peer.Exchanges.{role_of}
 use Rattle.bar_rules.specs.Peer.Knowledge.{known}
 use Rattle.bar_rules.specs.Peer.Log.{Log, Said}
@@ -53,9 +53,9 @@ identity-by kind x role m e =
 pub said-same : (me : Member) (log : Log) (kind : Kind) (x : Exchange) (role : Role) (d e : Datagram) → IsObedient me log → SaidIn log d → SaidIn log e → is_of kind x role d.message ≡ true → is_of kind x role e.message ≡ true → d ≡ e
 said-same me log kind x role d e h p q a b = unique me log d e h p q (identity-by kind x role d.message a ∙ sym (identity-by kind x role e.message b))
 
--- ---- what the log tells of this member's own side
+-- ---- what the log has of this member's own side
 
--- what is told of this member's side was said
+-- what the log has of this member's side was said
 pub own-said : (me : Member) (log : Log) (x : Exchange) (role : Role) (kind : Kind) (b : Body) → role_of me x ≡ role → body_on me (known me log) kind x role ≡ Some b
     → (d : Datagram) × SaidIn log d × (d.message.body ≡ b) × (is_of kind x role d.message ≡ true)
 own-said me log x role kind b own e = go (first_on me (known me log) kind x role) refl e
@@ -66,7 +66,7 @@ own-said me log x role kind b own e = go (first_on me (known me log) kind x role
         let was = first_said-was (is_of kind x role) log d (sym (first_on-own me log kind x role own) ∙ f) in
         (d, said-in log d was.0, cc, was.1)
 
--- what a said message of this member's side says is what the log tells
+-- what a said message of this member's side says is what the log has
 pub told-said : {A : Type 0} (me : Member) (log : Log) (x : Exchange) (role : Role) (kind : Kind) (f : Body → Option A) (m : Datagram) (a : A) → IsObedient me log → SaidIn log m → is_of kind x role m.message ≡ true → role_of me x ≡ role
     → option_and_then f (body_on me (known me log) kind x role) ≡ Some a → f m.message.body ≡ Some a
 told-said {A} me log x role kind f m a h p i own e = go (body_on me (known me log) kind x role) refl e
@@ -80,7 +80,7 @@ told-said {A} me log x role kind f m a h p i own e = go (body_on me (known me lo
 
 -- ---- a said briefcase
 
--- A said briefcase's terms are those that the log tells of its exchange, of which this member is on its side.
+-- A said briefcase's terms are those that the log has of its exchange, and this member is on the briefcase's side.
 pub record SaidBriefcase (me : Member) (log : Log) (d : Datagram) (c : Briefcase) : Type 0 where
   pub terms : terms_of me (known me log) (exchange_by c.round c.kind c.role d.message.from d.message.to) ≡ Some c.terms
   pub own : party_on (exchange_by c.round c.kind c.role d.message.from d.message.to) c.role ≡ me.party

@@ -20,7 +20,7 @@ use Rattle.std.specs.Bool.{then_some}
 use Rattle.bar_laws.proofs.Logs.{no-value, digest-extends, briefcase-is}
 use Rattle.std.proofs.lemmas.Bool.{and_parts, and_from, both_ways, not-true, not_from_false, cases_Bool}
 
--- what bar_case ensures of an opening that is bad: it stays so under longer tables
+-- a bar_case law of a bad opening: it stays bad under longer tables
 abbrev pub BadStaysBad : Type 0
 BadStaysBad =
     (id : List ℕ) (x : Exchange) (cap : ℕ) (terms : Terms) (role : Role) (cipher key : List ℕ) (old new : Table) → Extends old new
@@ -50,7 +50,7 @@ both_past_end-extend old new us vs h e =
 pub offer_ok-extends : (cap life : ℕ) (old new : Table) (round : ℕ) (young aged : List UpdateId) → Extends old new → offer_ok cap life new round young aged ≡ true → offer_ok cap life old round young aged ≡ true
 offer_ok-extends cap life old new round young aged h e = let p = and_parts _ _ e in and_from _ _ p.0 (both_past_end-extend old new young aged h p.1)
 
--- terms that a longer table allows, a shorter one allows
+-- terms that a longer table allows are allowed by a shorter one
 pub terms_ok-extends : (s : Session) (old new : Table) (x : Exchange) (terms : Terms) → Extends old new → terms_ok s new x terms ≡ true → terms_ok s old x terms ≡ true
 terms_ok-extends s old new x (forms.Balanced nonce ha hb) h e = let p = and_parts _ _ e in and_from _ _ p.0 (both_past_end-extend old new ha hb h p.1)
 terms_ok-extends s old new x (forms.Push young aged want give junk) h e =
@@ -111,7 +111,7 @@ no_opening : (s : Session) (table : Table) (m n : Message) (c : Briefcase) (k : 
     → bad_opening s table n m (briefcase_in n.body) (key_in m.body) ≡ false
 no_opening s table m n c k p q = rw (p, q) refl
 
--- one order of a pair: what it shows by opening comes first, and else what it shows by words
+-- one order of a pair: what it shows by opening is tested first, and then what it shows by contents
 pair_stays : (a a' b b' : Bool) (r q : Option Fault) (f : Fault) → (a ≡ true → a' ≡ true) → (b ≡ true → b' ≡ true)
     → (a' ≡ true → (r ≡ None) × (b ≡ false) × (q ≡ None)) → (b' ≡ true → (a ≡ false) × (r ≡ None) × (q ≡ None))
     → option_or (option_or (then_some a BadOpening) r) (option_or (then_some b BadOpening) q) ≡ Some f
@@ -134,7 +134,7 @@ messages_stay law s old new m n f h e =
     (no_opening s old n m z.0.0 z.1.0 z.0.1 z.1.1, words-key_case s n m z.0.0 z.1.0 z.0.1 z.1.1, words-case_key s n m z.0.0 z.1.0 z.0.1 z.1.1))
     e
 
--- leaves need no table, and come first
+-- leaves need no table, and are tested first
 leaves_first : (b : Bool) (o p : Option Fault) (f : Fault) → (o ≡ Some f → p ≡ Some f) → option_or (then_some b LeafTwice) o ≡ Some f → option_or (then_some b LeafTwice) p ≡ Some f
 leaves_first true o p f k e = e
 leaves_first false o p f k e = k e
@@ -171,7 +171,7 @@ fault_of-stays law s old new (d ∷ []) f h e = fault_of_one-stays s old new d f
 fault_of-stays law s old new (d ∷ g ∷ []) f h e = fault_of_two-stays law s old new d g f h e
 fault_of-stays law s old new (d ∷ g ∷ k ∷ ds) f h e = cc
 
--- a shown fault stays shown
+-- a fault that is shown under a table is shown under each longer one
 pub verdict-stays : BadStaysBad → (s : Session) (old new : Table) (evidence : List (List ℕ)) (party : ℕ) (f : Fault) → Extends old new
     → verdict s old evidence ≡ Shown party f → verdict s new evidence ≡ Shown party f
 verdict-stays law s old new evidence party f h e = go (all_read s evidence) e

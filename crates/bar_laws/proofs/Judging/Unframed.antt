@@ -48,7 +48,7 @@ agrees-known one two u d h e = go (one u.round) (two u.round) refl refl e
     go (Some ds) None f g e = inl refl
     go (Some ds) (Some es) f g e = let same : ds ≡ es = h.same u.round ds es f g in inr (subst (λ z. digest_in (Some z) u.index ≡ Known d) same e)
 
--- a held update is told by each table that agrees
+-- a held update is known to each table that agrees
 held-told : (me : Member) (log : Log) (two : Table) (u : UpdateId) → IsObedient me log → Agrees (table log) two → is_held me.session log u ≡ true → MatchesTable two (block_of me.session log) u
 held-told me log two u h agree e =
     let b = some-is (block_of me.session log u) e in
@@ -162,7 +162,7 @@ never-leaf_twice me log m n is h p q = go (bytes_eq (identity_of m.message) (ide
         let same : bytes_eq (identity_of m.message) (identity_of n.message) ≡ true = subst (λ (c : Datagram). bytes_eq (identity_of m.message) (identity_of c.message) ≡ true) one (bytes_eq-refl (identity_of m.message)) in
         absurd (both_ways _ e same)
 
--- ---- evidence of words
+-- ---- evidence of messages, whatever their signatures
 
 -- a message that was said is that of a said datagram
 pub said-message : (log : Log) (m : Message) → HasSaid log m → (d : Datagram) × SaidIn log d × (d.message ≡ m)
@@ -173,7 +173,7 @@ said-message (Ticked ∷ log) m h = let s = said-message log m h in (s.0, inr s.
 said-message (Heard d ∷ log) m h = let s = said-message log m h in (s.0, inr s.1, s.2)
 said-message (Kept q e ∷ log) m h = let s = said-message log m h in (s.0, inr s.1, s.2)
 
--- faults of messages, whatever the signatures beside them
+-- faults of messages, whatever signatures they have
 one-by-message : (s : Session) (t : Table) (d e : Datagram) → d.message ≡ e.message → fault_of_one s t d ≡ fault_of_one s t e
 one-by-message s t d e same = λ i. fault_of_one s t (record { message = same i; signature = [] })
 
@@ -185,7 +185,7 @@ leaf-or-none : (b : Bool) (o : Option Fault) → o ≡ None → IsNoWord (option
 leaf-or-none true o e = inr refl
 leaf-or-none false o e = inl e
 
--- datagrams whose messages a member signed show no fault of words, under any table that agrees with its own
+-- datagrams whose messages a member signed show no fault of messages, under any table that agrees with its own
 no-words : (me : Member) (log : Log) (two : Table) (ds : List Datagram) → IsMember me → IsObedient me log → Agrees (table log) two → AllByRecursion (λ (d : Datagram). HasSaid log d.message) ds
     → IsNoWord (fault_of me.session two ds)
 no-words me log two [] is h agree a = inl refl
@@ -199,7 +199,7 @@ no-words me log two (d ∷ e ∷ []) is h agree a =
     ((λ i. fault_of_messages me.session two (sym s.2 i) (sym t.2 i)) ∙ never-by_messages me log two s.0 t.0 h s.1 t.1 agree)
 no-words me log two (d ∷ e ∷ f ∷ ds) is h agree a = inl refl
 
--- evidence whose messages a member signed does not name it with a fault of words
+-- evidence whose messages a member signed does not name it with a fault of messages
 pub not-named-by-words : (me : Member) (log : Log) (two : Table) (evidence : List (List ℕ)) (ds : List Datagram) → IsMember me → IsObedient me log → Agrees (table log) two
     → all_read me.session evidence ≡ Some ds → AllByRecursion (λ (d : Datagram). HasSaid log d.message) ds → accuses_by_words me.party (verdict me.session two evidence) ≡ false
 not-named-by-words me log two evidence ds is h agree read said = rw read (checked (are_of_one_peer ds) (list_all (is_signed_by me.session) ds) (fault_of me.session two ds) (no-words me log two ds is h agree said))

@@ -46,7 +46,7 @@ opened_block-whole s c key u b n counts e =
     let plain : length (opened key c.cipher) ≡ length c.cipher = length-opened key c.cipher in
     cut-whole (promised_updates s.cap c.terms c.role) (opened key c.cipher) u b (omega (arith, us, plain, n)) e
 
--- a heard briefcase has the counts of its promise, and a cipher of so many bytes
+-- a heard briefcase has the counts of its promise, and a cipher of as many bytes
 record IsWhole (me : Member) (c : Briefcase) : Type 0 where
   counts : counts_ok me.session c ≡ true
   long : length c.cipher ≡ 1024 * c.updates + 1280 * c.junk

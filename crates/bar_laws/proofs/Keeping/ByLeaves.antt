@@ -1,4 +1,4 @@
--- With what is of another exchange a datagram is tried by leaves alone.
+-- With datagrams of another exchange, a datagram is tried by leaves alone.
 use Rattle.std.specs.Prelude.{Option, Some, None, ◌==◌, ◌||◌, option_map, if◌then◌else◌}
 use Rattle.std.specs.Bool.{then_some}
 use Rattle.std.specs.List.{AllByRecursion, list_all}
@@ -61,7 +61,7 @@ two-parties s (Case c) from to p may = may.2
 two-parties s (Key k) from to p may = may.2
 two-parties s _ from to p may = cc
 
--- of a kind that peers sign the signature is accepted
+-- for a kind that peers sign, the signature is accepted
 pub accepted-of : (s : Session) (e : Datagram) → has_valid_signature s e ≡ true → is_peer_kind e.message.body ≡ true → is_signed_by s e ≡ true
 accepted-of s e valid peer =
     let signed : is_signed e.message.body ≡ true = peer_kind_signed e.message.body peer in
@@ -76,7 +76,7 @@ other-side me q y (inr s) n =
 
 -- ---- one pair
 
--- what is tried of a datagram beside another exchange
+-- what is tried of a datagram together with another exchange
 record IsBeside (me : Member) (k : Knowledge) (d : Datagram) (x : Exchange) : Type 0 where
   sound : IsSound me k
   read : datagram_of me.session (datagram_bytes me.session d) ≡ Some d

@@ -1,4 +1,4 @@
--- Where an entry makes an exchange kept, a room was left for it.
+-- If an entry makes an exchange kept, a room was left for it.
 use Rattle.bar_rules.specs.Peer.Exchanges.{role_of, request_kind, seat, seat_in}
 use Rattle.bar_rules.specs.Peer.Knowledge.{known, request_deadline}
 use Rattle.bar_rules.specs.Peer.Log.{Log, Entry, Heard, Said, ticks, ticks_in, round_now, if_passes, said_in, first_said, has_said}
@@ -26,7 +26,7 @@ use Rattle.bar_laws.proofs.Runs.{new-seat}
 
 -- ---- the entry that makes an exchange kept
 
--- It is no tick, and a request for the exchange may still be admitted.
+-- It isn't a tick, and a request for the exchange may still be admitted.
 record IsNew (before : Log) (e : Entry) (x : Exchange) : Type 0 where
   quiet : ticks_in e ≡ 0
   near : round_now before ≤ x.round + request_deadline
@@ -79,7 +79,7 @@ kept-new me before e x al none some =
 
 -- ---- room
 
--- what a test passes is none that it refuses
+-- an element that passes a test isn't one that it refuses
 apart : (ok : Exchange → Bool) (x : Exchange) (ys : List Exchange) → ok x ≡ false → list_all ok ys ≡ true → AllByRecursion (λ y. same_exchange x y ≡ false) ys
 apart ok x [] none a = tt
 apart ok x (y ∷ ys) none a = (let p = and_parts _ _ a in (go (same_exchange x y) refl p.0, apart ok x ys none p.1))
@@ -96,7 +96,7 @@ list-more : (p q : Exchange → Bool) (xs : List Exchange) → ((x : Exchange) �
 list-more p q [] f a = refl
 list-more p q (x ∷ xs) f a = let c = and_parts _ _ a in and_from _ _ (f x c.0) (list-more p q xs f c.1)
 
--- a recent exchange that was kept before the entry is so after it, where this is no tick
+-- a recent exchange that was kept before the entry is so after it, if the entry isn't a tick
 recent-later : (me : Member) (before : Log) (e : Entry) (y : Exchange) → round_now (e ∷ before) ≡ round_now before → is_recent me (known me before) y ≡ true → is_recent me (known me (e ∷ before)) y ≡ true
 recent-later me before e y same k =
     let p = and_parts _ _ k in

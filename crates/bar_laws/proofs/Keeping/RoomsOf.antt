@@ -1,4 +1,4 @@
--- Each exchange of which anything was admitted or said has a room in its round, and no two of a round have the same.
+-- Each exchange of which anything was admitted or said has a room in its round, and no two of a round have the same room.
 use Rattle.bar_wire.specs.Limits.{seats_a_round}
 use Rattle.bar_wire.specs.Bodies.{offer_in, commitment_in}
 use Rattle.bar_rules.specs.Peer.Admission.{is_row_met, terms_with}
@@ -54,7 +54,7 @@ place-heard me log x h side e =
     let n = some-is (seat log x) (seat-of log x e) in
     rw (side, n.1) (some-mapped _ (asking_at n.0) (two-seats n.0 (seat-few me log x n.0 h n.1)))
 
--- a room stays
+-- a room is kept
 asking-later : (me : Member) (log before : Log) (x : Exchange) (role : Role) (a : Asking) → IsLater log before → asking_of (known me before) x role ≡ Some a → asking_of (known me log) x role ≡ Some a
 asking-later me log before x Initiator a later e = go (has_said (is_of (request_kind x.kind) x Initiator) before) refl e
   where

@@ -33,7 +33,7 @@ two-any false false (inr e) = e
 
 -- ---- the exchanges of two parties
 
--- the two are an exchange's parties
+-- the two parties are those of an exchange
 abbrev AreSides : ℕ → ℕ → Exchange → Type 0
 AreSides p q x = ((x.initiator ≡ p) × (x.responder ≡ q)) ⊎ ((x.initiator ≡ q) × (x.responder ≡ p))
 

@@ -58,7 +58,7 @@ any-said p (y ∷ log) d x (inr s) e h = go (exchange_said (said_in y)) (any-sai
     go None w = w
     go (Some z) w = any-inserted p z (exchanges_said log) ∙ or_right (p z) (list_any p (exchanges_said log)) w
 
--- a filter changes no test whose exchanges it keeps
+-- a filter doesn't change a test if it keeps all exchanges that pass it
 pub any-kept : (p r : Exchange → Bool) (xs : List Exchange) → ((x : Exchange) → p x ≡ true → r x ≡ true) → list_any p (filter r xs) ≡ list_any p xs
 any-kept p r [] f = refl
 any-kept p r (x ∷ xs) f = go (r x) (p x) refl refl (any-kept p r xs f)
@@ -76,7 +76,7 @@ any-found p (x ∷ xs) e = go (or_cases _ _ e) (any-found p xs)
     go (inl h) f = (x, h)
     go (inr h) f = f h
 
--- the exchange of a message of one
+-- the exchange of a message is one of them
 pub exchange-is : (kind : Kind) (x : Exchange) (role : Role) (m : Message) → is_of kind x role m ≡ true → exchange_of m ≡ Some x
 exchange-is kind x role m e =
     let w = is_of-is kind x role m e in
@@ -153,11 +153,11 @@ debt-there me log party w =
         (said-found (is_of kinds.Key x (role_of me x)) log w.key said w.mine))
         (not_from_false (has_heard (is_of kinds.Key x (other_role (role_of me x))) log) (none-heard (is_of kinds.Key x (other_role (role_of me x))) log w.unpaid))
 
--- in versions 1 and 2 nobody owes
+-- in versions 1 and 2 no party owes a key
 pub never-owes : (me : Member) (k : Knowledge) (party : ℕ) → is_third me.session.shape ≡ false → owes me k party ≡ false
 never-owes me k party e = and_left (is_third me.session.shape) (list_any (is_owed me k party) k.opens) e
 
--- ---- what is said makes no debt, but a KEY
+-- ---- only a KEY that is said makes a debt
 
 abbrev pub IsNoKey : Datagram → Type 0
 IsNoKey d = eqb (kind_number d.message.body) 10 ≡ false
@@ -193,7 +193,7 @@ still-unowed me log d party quiet h = false_from_ne_true (owes me (known me (Sai
         go (inr c) = c
         go (inl same) = absurd (both_ways (eqb (kind_number w.key.message.body) 10) (subst (λ (z : Datagram). IsNoKey z) same quiet) (and_parts _ _ w.mine).0)
 
--- nor does it make one in what is known, where it is of a round whose keys aren't due
+-- nor does it make one in what is known, if it is of a round whose keys aren't due
 pub debts-stay : (me : Member) (k : Knowledge) (d : Datagram) (party : ℕ) → IsNoKey d → this_round k ≤ round_of d.message.body + 1 → owes me (with_said me d k) party ≡ owes me k party
 debts-stay me k d party quiet soon =
     ap (λ b. is_third me.session.shape && b)

@@ -1,4 +1,4 @@
--- What is heard comes from another party, what is said goes to another, and where the terms of an exchange are complete the own side's first
+-- What is heard is from another party, and what is said is for another. If the terms of an exchange are complete, the own side's first
 -- message is said.
 use Rattle.bar_wire.specs.Bodies.{briefcase_in, divulge_in, history_in, offer_in, reply_in}
 use Rattle.bar_wire.specs.declared.kind.Kind.TheVariants as kinds
@@ -84,7 +84,7 @@ receiver-on kind x role m e = let w = is_of-is kind x role m e in sym (party-ove
 pub is_of-own : (m : Message) (r : ℕ) (k : XKind) (role : Role) → part_of m.body ≡ Some (r, k, role) → is_of (kind_of m.body) (exchange_by r k role m.from m.to) role m ≡ true
 is_of-own m r k role e = rw e (and_from _ _ (eqb_refl (kind_number m.body)) (and_from _ _ (same_exchange_refl (exchange_by r k role m.from m.to)) (same_role_refl role)))
 
--- ---- what is heard is from another
+-- ---- what is heard is from another party
 
 -- nothing of this member's side is heard
 pub own-unheard : (me : Member) (log : Log) (d : Datagram) (kind : Kind) (x : Exchange) (role : Role) → IsObedient me log → WasHeard log d → is_of kind x role d.message ≡ true → party_on x role ≡ me.party → ⊥
@@ -104,7 +104,7 @@ offer-both (Some a) (Some b) t e = ((a, refl), (b, refl))
 offer-both (Some a) None t e = cc
 offer-both None b t e = cc
 
--- where something of a body was read on the own side, it was said
+-- if part of a body was read on the own side, the body was said
 own-part : {A : Type 0} (f : Body → Option A) (me : Member) (log : Log) (kind : Kind) (x : Exchange) (role : Role) (c : A) → role_of me x ≡ role → option_and_then f (body_on me (known me log) kind x role) ≡ Some c → has_said (is_of kind x role) log ≡ true
 own-part f me log kind x role c own e = go (first_said (is_of kind x role) log) (subst (λ o. option_and_then f (option_map (λ d. d.message.body) o) ≡ Some c) (first_on-own me log kind x role own) e)
   where
@@ -132,7 +132,7 @@ own-revealed me log x a h own e = at (find-of (λ before e. revealed_in me befor
     at : IsFind (λ before e. revealed_in me before x e) log a → has_said (is_of kinds.Request x Initiator) log ≡ true
     at w = by w.before w.entry w.place w.found
 
--- where the terms are complete this member's first message is said
+-- if the terms are complete, this member's first message is said
 pub terms-said : (me : Member) (log : Log) (x : Exchange) (role : Role) (t : Terms) → IsObedient me log → party_on x role ≡ me.party → role_of me x ≡ role → terms_of me (known me log) x ≡ Some t
     → has_said (is_of (opening_kind x.kind role) x role) log ≡ true
 terms-said me log x role t h own side e = go x.kind role own side e
@@ -143,7 +143,7 @@ terms-said me log x role t h own side e = go x.kind role own side e
     go Push Initiator own side e = let p = offer-both _ _ t e in own-part offer_in me log kinds.Query x Initiator p.0.0 side p.0.1
     go Push Responder own side e = let p = offer-both _ _ t e in own-part reply_in me log kinds.Reply x Responder p.1.0 side p.1.1
 
--- ---- what is said goes to another
+-- ---- what is said is for another party
 
 pub role-initiator : (me : Member) (x : Exchange) → x.initiator ≡ me.party → role_of me x ≡ Initiator
 role-initiator me x e = rw (eq-eqb x.initiator me.party e) refl
@@ -156,7 +156,7 @@ pub role-own : (me : Member) (r : ℕ) (k : XKind) (role : Role) (to : ℕ) → 
 role-own me r k Initiator to other = role-initiator me (exchange_by r k Initiator me.party to) refl
 role-own me r k Responder to other = role-responder me (exchange_by r k Responder me.party to) other
 
--- where the request of an exchange is heard, the partner is another party
+-- if the request of an exchange is heard, the partner is another party
 asker-other : (me : Member) (log : Log) (kind : Kind) (r : ℕ) (k : XKind) (to : ℕ) → IsObedient me log → has_heard (is_of kind (exchange_by r k Responder me.party to) Initiator) log ≡ true → to ≡ me.party → ⊥
 asker-other me log kind r k to h e same =
     let x : Exchange = exchange_by r k Responder me.party to in
@@ -192,7 +192,7 @@ no-self me log x h self e =
     not-ten Balanced n e = rw e refl
     not-ten Push n e = rw e refl
 
--- where the terms of an exchange with a party are complete, that party is another
+-- if the terms of an exchange with a party are complete, that party is another one
 terms-elsewhere : (me : Member) (log : Log) (r : ℕ) (k : XKind) (role : Role) (to : ℕ) (t : Terms) → IsObedient me log → terms_of me (known me log) (exchange_by r k role me.party to) ≡ Some t → to ≡ me.party → ⊥
 terms-elsewhere me log r k role to t h e same = no-self me log x h (responder role) (terms-said me log x Initiator t h (initiator role) (role-initiator me x (initiator role)) e)
   where

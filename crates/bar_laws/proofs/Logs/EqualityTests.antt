@@ -27,7 +27,7 @@ some-equal a b e = ap (λ o. unwrap_or o a) e
 pub no-value : {A : Type 0} (o : Option A) (a : A) → is_some o ≡ false → o ≡ Some a → ⊥
 no-value o a none e = both_ways (is_some o) none (ap is_some e)
 
--- a body has the number of no other kind
+-- a body of one kind doesn't have the number of another kind
 pub other-kind : (b : Body) (kind : Kind) → eqb (kind_number b) (code_of kind) ≡ false → kind_number b ≡ code_of kind → ⊥
 other-kind b kind other same = both_ways (eqb (kind_number b) (code_of kind)) other (eq-eqb (kind_number b) (code_of kind) same)
 

@@ -1,4 +1,4 @@
--- A key is said only where both briefcases stand, of equally many items.
+-- A key is said only if both briefcases are there, with equally many items.
 use Rattle.bar_rules.specs.Peer.Holdings.{case_heard_from, case_said_by}
 use Rattle.bar_wire.specs.Bodies.{briefcase_in}
 use Rattle.bar_wire.specs.declared.kind.Kind.TheVariants as kinds
@@ -61,7 +61,7 @@ is_of-case x role m e = go m.body refl (eqb-true _ _ (and_parts _ _ e).0) e
     go (Case c) h n e = let p = place-is _ _ _ _ e in record { case = c; body = h; exchange = p.0; side = p.1 }
     go b h n e = absurd (other-kind b kinds.Case refl n)
 
--- ---- what a said key and a said briefcase had before them
+-- ---- what was there before a said key and a said briefcase
 
 rule-at : (me : Member) (log : Log) (to : ℕ) (b c : Body) → b ≡ c → MaySay me (known me log) to b → MaySay me (known me log) to c
 rule-at me log to b c e h = subst (λ z. MaySay me (known me log) to z) e h
@@ -127,7 +127,7 @@ promises-by-role : (s : Session) (t : Table) (x : Exchange) (terms : Terms) (rol
 promises-by-role s t x terms Initiator e = promises_equal s.cap terms (terms_promise s.cap s.shape.life x.round t terms e)
 promises-by-role s t x terms Responder e = sym (promises_equal s.cap terms (terms_promise s.cap s.shape.life x.round t terms e))
 
--- both briefcases of an exchange stand in the log, with the same valid terms
+-- both briefcases of an exchange are in the log, with the same valid terms
 pub record HasBoth (me : Member) (log : Log) (x : Exchange) (role : Role) : Type 0 where
   pub mine : Briefcase
   pub theirs : Briefcase
@@ -164,7 +164,7 @@ both-of me log x role mine theirs h said heard same = go (said-case me log x rol
           valid = subst (λ z. (t : Table) × (terms_ok me.session t x z.terms ≡ true)) eq c.2.valid;
         }
 
--- where a key may be said both briefcases stand
+-- if a key may be said, both briefcases are there
 both-by-rule : (me : Member) (log : Log) (to : ℕ) (k : KeyGiven) (x : Exchange) (role : Role) → IsObedient me log → MayGiveKey me (known me log) to k
     → exchange_by k.round k.kind k.role me.party to ≡ x → k.role ≡ role → HasBoth me log x role
 both-by-rule me log to k x role h rule name side =
@@ -184,7 +184,7 @@ both-later me log before x role later b =
       valid = b.valid;
     }
 
--- where a key stands both briefcases stand
+-- if a key is there, both briefcases are there
 pub both-at-key : (me : Member) (log : Log) (x : Exchange) (role : Role) → IsObedient me log → has_said (is_of kinds.Key x role) log ≡ true → HasBoth me log x role
 both-at-key me log x role h e = go (some-is (first_said (is_of kinds.Key x role) log) e)
   where
@@ -205,7 +205,7 @@ size-equal : (s : Session) (x : Exchange) (role : Role) (mine theirs : Briefcase
     → length (promise s.cap theirs.terms theirs.role) ≡ length (promise s.cap mine.terms mine.role)
 size-equal s x role mine theirs t a b c ok = rw (a, b, c) (sym (promises-by-role s t x mine.terms role ok))
 
--- what is opened is nothing, or what was promised and what was received
+-- what is opened is nothing, or equals both what was promised and what was received
 pub balance : (me : Member) (log : Log) (x : Exchange) → IsObedient me log → ((totals me (known me log) x).opened ≡ 0) ⊎ HasEvenBriefcases me log x
 balance me log x h = go (has_said (is_of kinds.Key x (role_of me x)) log) refl
   where

@@ -1,4 +1,4 @@
--- What is found first stays found, and was found in some entry.
+-- What is found first remains the first, and was found in some entry.
 use Rattle.bar_rules.specs.Peer.Log.{Log, Entry, earliest}
 use Rattle.bar_rules.specs.Member.{Member}
 use Rattle.bar_rules.specs.Peer.Rules.{IsObedient, Allows}
@@ -6,7 +6,7 @@ use Rattle.std.specs.Option.{option_or}
 use Rattle.std.proofs.Common.{◌≡◌, ℕ, zero, suc, ◌<◌, [], ◌∷◌, ◌++◌, length, refl, sym, ap, subst, inl, inr, arith}
 use Rattle.std.specs.Prelude.{Option, Some, None, ◌⊎◌, Contains, slice_index_or}
 
--- an earlier find stays the first
+-- an earlier find remains the first
 pub option_or-some : {A : Type 0} (o p : Option A) (a : A) → o ≡ Some a → option_or o p ≡ Some a
 option_or-some o p a e = rw e
 
@@ -19,7 +19,7 @@ pub earliest-more : {A : Type 0} (f : Log → Entry → Option A) (new log : Log
 earliest-more f [] log a e = e
 earliest-more f (x ∷ new) log a e = option_or-some (earliest f (new ++ log)) (f (new ++ log) x) a (earliest-more f new log a e)
 
--- an entry of a log, with what stood before it
+-- an entry of a log, with the log before it
 pub record IsEntry (log before : Log) (e : Entry) : Type 0 where
   pub after : Log
   pub split : log ≡ after ++ e ∷ before
@@ -57,7 +57,7 @@ find-of f (x ∷ log) a e = pick (option_or-cases (earliest f log) (f log x) a e
         record { before = w.before; entry = w.entry; place = record { after = x ∷ w.place.after; split = ap (λ l. x ∷ l) w.place.split }; found = w.found; first = w.first }
     pick (inr h) go = record { before = log; entry = x; place = record { after = []; split = refl }; found = h.1; first = h.0 }
 
--- in an obedient log each entry was allowed, and what stood before it is obedient
+-- in an obedient log each entry was allowed, and the log before it is obedient
 pub obedient-before : (me : Member) (new log : Log) → IsObedient me (new ++ log) → IsObedient me log
 obedient-before me [] log h = h
 obedient-before me (x ∷ new) log h = obedient-before me new log h.1

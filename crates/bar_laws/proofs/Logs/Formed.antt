@@ -1,4 +1,4 @@
--- Messages of an exchange whose form, ranges and parties are those of the grammar, and what this says of what was told in them.
+-- Messages of an exchange whose form, ranges and parties are those of the grammar, and what follows for their contents.
 use Rattle.bar_wire.specs.Bodies.{divulge_in, history_in, offer_in, reply_in}
 use Rattle.bar_wire.specs.declared.kind.Kind.TheVariants as kinds
 use Rattle.bar_rules.specs.Peer.Exchanges.{revealed, revealed_in}
@@ -70,7 +70,7 @@ round-of-exchange kind x role m e =
     let at = is_of-is kind x role m e in
     part-round m.body at.round at.sort role at.part ∙ sym (round-by at.round at.sort role m.from m.to) ∙ ap (λ y. y.round) at.exchange
 
--- ---- where all that was said or heard of exchanges is as the grammar has it
+-- ---- if all that was said or heard of exchanges is in the grammar
 
 abbrev pub SpokenIn : Log → Datagram → Type 0
 SpokenIn [] d = ⊥
@@ -86,7 +86,7 @@ spoken-in log d w = subst (λ l. SpokenIn l d) (sym w.place.split) (spoken-appen
 abbrev pub AllFormed : Member → Log → Type 0
 AllFormed me log = (d : Datagram) (p : ℕ × XKind × Role) → SpokenIn log d → part_of d.message.body ≡ Some p → IsFormed me.session.shape d.message
 
--- what was told of a side of an exchange, and the message that told it
+-- what was read of a side of an exchange, and the message that contains it
 pub record WasTold {A : Type 0} (me : Member) (log : Log) (x : Exchange) (f : Body → Option A) (a : A) : Type 0 where
   pub message : Message
   pub formed : IsFormed me.session.shape message
@@ -106,7 +106,7 @@ told {A} me log kind x role f a all e = go (first_on me (known me log) kind x ro
         let formed : IsFormed me.session.shape d.message = all d (at.round, at.sort, role) (spoken-in log d w.0) at.part in
         record { message = d.message; formed = formed; round = round-of-exchange kind x role d.message w.1; between = formed-between me.session.shape kind x role d.message formed w.1; found = e }
 
--- ---- what the messages tell
+-- ---- what the messages contain
 
 pub told-answer : (me : Member) (log : Log) (x : Exchange) (hb : List UpdateId) → WasTold me log x history_in hb → IsWindowSet me.session.shape x.round hb
 told-answer me log x hb w = subst (λ r. IsWindowSet me.session.shape r hb) w.round (go w.message.body w.formed.form w.found)

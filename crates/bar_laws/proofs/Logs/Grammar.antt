@@ -1,4 +1,4 @@
--- What the grammar says of an admitted datagram: its parties, its round, and that it reads back.
+-- What the grammar says of an admitted datagram: its parties, its round, and that it is read back.
 use Rattle.bar_wire.specs.Limits.{everyone}
 use Rattle.bar_rules.specs.Peer.Admission.{is_for, is_to_all}
 use Rattle.bar_rules.specs.Peer.Log.{Log, Heard, first_heard, is_announced, names_party}
@@ -30,7 +30,7 @@ reads-back s b d e = subst (λ z. datagram_of s z ≡ Some d) (sym (spells s b d
 pub fits-back : (s : Session) (d : Datagram) → IsDatagram s.shape d → datagram_of s (datagram_bytes s d) ≡ Some d
 fits-back s d fits = is_told s.shape d (datagram_bytes s d) (record { fits = fits; is = refl })
 
--- what is in the grammar is all that its bytes are read as
+-- the bytes of a datagram in the grammar are read as nothing else
 pub fits-reads : (s : Session) (d : Datagram) → IsDatagram s.shape d → (e : Datagram) → datagram_of s (datagram_bytes s d) ≡ Some e → e ≡ d
 fits-reads s d fits e reads = let back : datagram_of s (datagram_bytes s d) ≡ Some d = fits-back s d fits in cc
 
@@ -77,7 +77,7 @@ part-to-one (KeyReq r k role) p e = refl
 part-to-one (Key k) p e = refl
 part-to-one _ p e = cc
 
--- a datagram that stands in the log for this member alone
+-- a datagram in the log that is for this member alone
 pub record IsForOneMember (me : Member) (d : Datagram) : Type 0 where
   pub to : d.message.to ≡ me.party
   pub other : d.message.from ≡ me.party → ⊥
@@ -110,7 +110,7 @@ rises-above : (high low : ℕ) (ps : List ℕ) → RisesTo high low ps → list_
 rises-above high low [] r = refl
 rises-above high low (p ∷ ps) r = rw (ne_eqb p 0 (λ z. absurd (omega (arith, z, r.0)))) (rises-above high p ps r.2)
 
--- a notice names peers alone
+-- a notice names only peers
 names-peers : (s : Shape) (b : Body) → InRange s b → list_any (λ q. eqb q 0) (evictions_in b) ≡ false
 names-peers s (Evict r ps) range = rises-above s.peers 0 ps range.1.2
 names-peers s b range = refl

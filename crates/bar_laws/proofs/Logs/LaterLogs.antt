@@ -1,4 +1,4 @@
--- What a log says, each later log says.
+-- What a log says is said by each later log.
 use Rattle.bar_rules.specs.Peer.Log.{Log, Entry, Heard, Said, earliest, heard_in, said_in, if_passes, first_heard, first_said, ticks, round_now}
 use Rattle.bar_rules.specs.Member.{Member}
 use Rattle.bar_rules.specs.Peer.Rules.{IsObedient, IsSignedByRule}
@@ -68,7 +68,7 @@ pub some-is : {A : Type 0} (o : Option A) → is_some o ≡ true → (a : A) × 
 some-is (Some a) e = (a, refl)
 some-is None e = cc
 
--- what was said met the rule under the log of its moment
+-- what was said met the rule under the log at that moment
 pub said-rule : (me : Member) (log : Log) (d : Datagram) → (w : WasSaid log d) → IsObedient me log → IsSignedByRule me w.before d
 said-rule me log d w h = (allowed-at me log w.before (Said d) w.place h).0
 

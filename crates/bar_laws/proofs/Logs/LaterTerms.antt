@@ -1,4 +1,4 @@
--- Terms and briefcases that a log tells, each later log tells.
+-- Terms and briefcases that a log has are in each later log.
 use Rattle.bar_rules.specs.Peer.Holdings.{case_heard_from}
 use Rattle.bar_wire.specs.Bodies.{briefcase_in, history_in, offer_in, reply_in}
 use Rattle.bar_rules.specs.Peer.Exchanges.{revealed_in}

@@ -7,12 +7,12 @@ pub all-both : {X : Type 0} (P : X → Type 0) (xs ys : List X) → AllByRecursi
 all-both P [] ys a b = b
 all-both P (x ∷ xs) ys a b = (a.0, all-both P xs ys a.1 b)
 
--- what follows from a property holds where it holds
+-- what follows from a property holds if the property holds
 pub all-map : {X : Type 0} (P Q : X → Type 0) (xs : List X) → ((x : X) → P x → Q x) → AllByRecursion P xs → AllByRecursion Q xs
 all-map P Q [] f a = tt
 all-map P Q (x ∷ xs) f a = (f x a.0, all-map P Q xs f a.1)
 
--- what holds of each that is there holds of each
+-- what holds of all elements holds of each element that is there
 pub all-of : {X : Type 0} (P : X → Type 0) (xs : List X) → ((x : X) → Contains xs x → P x) → AllByRecursion P xs
 all-of P [] f = tt
 all-of P (x ∷ xs) f = (f x (0, omega arith, refl), all-of P xs (λ y c. f y (suc c.0, omega (arith, c.1), c.2)))

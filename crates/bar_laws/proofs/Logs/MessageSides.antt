@@ -1,4 +1,4 @@
--- A message of an exchange's side names the exchange, and who receives it is on the other side.
+-- A message of an exchange's side names the exchange, and its receiver is on the other side.
 use Rattle.bar_wire.specs.declared.kind.Kind.{Kind}
 use Rattle.bar_rules.specs.Peer.Exchanges.{role_of, partner_in}
 use Rattle.bar_rules.specs.Member.{Member}
@@ -21,7 +21,7 @@ names-by x r k Responder from to same = λ i. Some ((same i).round, (same i).kin
 pub is_of-part : (kind : Kind) (x : Exchange) (role : Role) (m : Message) → is_of kind x role m ≡ true → part_of m.body ≡ Some (x.round, x.kind, role)
 is_of-part kind x role m e = let w = is_of-is kind x role m e in w.part ∙ names-by x w.round w.sort role m.from m.to w.exchange
 
--- a member that a message is to, and not from, is on the other side
+-- a member that receives a message that is not from it is on the other side
 pub receiver-role : (me : Member) (r : ℕ) (k : XKind) (role : Role) (from to : ℕ) → to ≡ me.party → (from ≡ me.party → ⊥) → role_of me (exchange_by r k role from to) ≡ other_role role
 receiver-role me r k Initiator from to e n = rw (ne_eqb from me.party n) refl
 receiver-role me r k Responder from to e n = rw (eq-eqb to me.party e) refl

@@ -1,4 +1,4 @@
--- Messages of one identity: a message that wasn't said for its exchange has no other of its identity said.
+-- Messages of one identity: if a message wasn't said for its exchange, no other of its identity is said.
 use Rattle.bar_wire.specs.declared.kind.Kind.TheVariants as kinds
 use Rattle.bar_wire.specs.declared.kind.Kind.{Kind}
 use Rattle.bar_rules.specs.Peer.Log.{Log, Heard, Said, earliest, if_passes, heard_in, said_in, first_heard, first_said, has_heard, has_said}
@@ -19,7 +19,7 @@ use Rattle.std.proofs.lemmas.Bool.{and_parts, eqb-true, both_ways}
 use Rattle.bar_laws.proofs.Logs.EqualityTests.{no-value, other-kind}
 use Rattle.bar_laws.proofs.Logs.LaterLogs.{WasHeard, WasSaid, first_said-was, some-is}
 
--- what is found stays found
+-- what is found remains found
 pub some-more : {A : Type 0} (o p : Option A) → is_some o ≡ true → is_some (option_or o p) ≡ true
 some-more (Some a) p e = refl
 some-more None p e = cc
@@ -36,7 +36,7 @@ found-more p d (x ∷ new) before e = some-more _ _ (found-more p d new before e
 pub said-found : (p : Message → Bool) (log : Log) (d : Datagram) → WasSaid log d → p d.message ≡ true → has_said p log ≡ true
 said-found p log d w e = subst (λ l. has_said p l ≡ true) (sym w.place.split) (found-more p d w.place.after w.before e)
 
--- so is one that was admitted and passes
+-- the same holds for one that was admitted and passes
 found-heard : (p : Message → Bool) (d : Datagram) (new before : Log) → p d.message ≡ true → is_some (earliest (λ before e. if_passes p (heard_in e)) (new ++ Heard d ∷ before)) ≡ true
 found-heard p d [] before e = go (first_heard p before)
   where
@@ -111,7 +111,7 @@ twin-whole m n w e = twin-by m n m.body n.body refl refl w (eqb-true _ _ (and_pa
 none-false : {A : Type 0} (o : Option A) → o ≡ None → is_some o ≡ false
 none-false o e = ap is_some e
 
--- where nothing was said for the exchange, nothing of the identity was said
+-- if nothing was said for the exchange, nothing of the identity was said
 pub once-whole : (log : Log) (m : Message) (kind : Kind) (x : Exchange) (role : Role) → is_whole m.body ≡ true → is_of kind x role m ≡ true
     → first_said (is_of kind x role) log ≡ None → has_said (has_same_identity m) log ≡ false
 once-whole log m kind x role whole own none = go (has_said (has_same_identity m) log) refl

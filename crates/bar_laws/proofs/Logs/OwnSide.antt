@@ -23,7 +23,7 @@ names-exchange kind x role m e =
     let names = parts-of (at.round, at.sort, role) (x.round, x.kind, role) (sym at.part ∙ is_of-part kind x role m e) in
     sym (λ i. exchange_by (names.0 i) (names.1 i) role m.from m.to) ∙ at.exchange
 
--- A datagram that was said of a side of an exchange: its moment, what it may say, and that the side is this member's.
+-- A datagram that was said of a side of an exchange: its moment, its rule, and that the side is this member's.
 pub record IsSaying (me : Member) (log : Log) (x : Exchange) (role : Role) (d : Datagram) : Type 0 where
   pub was : WasSaid log d
   pub obedient : IsObedient me was.before

@@ -48,7 +48,7 @@ row-all p round (i ∷ is) h = and_from _ _ (h i) (row-all p round is h)
 
 -- ---- successive rounds
 
--- the updates of so many rounds, from one on
+-- the updates of so many rounds, from this one on
 unfoldable pub run_of : ℕ → ℕ → ℕ → List UpdateId
 run_of words a n = flat_map (updates_of words) (range_with_len a n)
 
@@ -76,7 +76,7 @@ run-join words a (suc n) k =
     ∙ ap (λ us. updates_of words a ++ us) (run-join words (a + 1) n k ∙ rw e refl)
     ∙ sym (append_assoc (updates_of words a) (run_of words (a + 1) n) (run_of words (a + suc n) k))
 
--- ---- runs inside runs
+-- ---- ranges within ranges
 
 inside-left : (us vs ws : List UpdateId) → is_inside us vs ≡ true → is_inside us (vs ++ ws) ≡ true
 inside-left [] vs ws e = refl

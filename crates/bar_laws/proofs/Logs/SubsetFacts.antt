@@ -1,4 +1,4 @@
--- What holds of each update of a set holds of each of a set inside it.
+-- What holds of each update of a set holds of each update of a subset.
 use Rattle.bar_window.specs.Updates.{has_update, same_update, is_inside}
 use Rattle.bar_window.specs.declared.update.UpdateId.{UpdateId}
 use Rattle.std.proofs.Common.{◌≡◌, Bool, true, List, [], ◌∷◌, refl, sym, subst, inl, inr}

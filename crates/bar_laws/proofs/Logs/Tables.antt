@@ -50,7 +50,7 @@ new-extends new log = record { same = λ round ds e. grown round ds (manifest lo
 pub table-later : (log before : Log) → IsLater log before → Extends (table before) (table log)
 table-later log before later = subst (λ l. Extends (table before) (table l)) (sym later.split) (new-extends later.new before)
 
--- what a table says of an update, each longer one says, but where it lacks the round
+-- what a table says of an update, each longer one says, unless the table lacks the round
 pub digest-extends : (old new : Table) (u : UpdateId) → Extends old new → (digest_of old u ≡ NoManifest) ⊎ (digest_of new u ≡ digest_of old u)
 digest-extends old new u h = go (old u.round) refl
   where
@@ -78,7 +78,7 @@ within-extends old new (u ∷ us) h e = let p = and_parts _ _ e in and_from _ _ 
 
 -- ---- held blocks
 
--- the block is the one that the table's digest is of
+-- the block is the one whose digest the table has
 abbrev pub IsBlockOf : Table → UpdateId → List ℕ → Type 0
 IsBlockOf t u block = digest_of t u ≡ Known (sha256 block)
 
@@ -87,7 +87,7 @@ digest-is (Known d) block e = let same : sha256 block ≡ d = same_bytes-is _ _ 
 digest-is PastEnd block e = cc
 digest-is NoManifest block e = cc
 
--- each opened block of a good opening is the one that the table has the digest of
+-- each opened block of a good opening is the one whose digest the table has
 told-found : (t : Table) (u : UpdateId) (us : List UpdateId) (blocks : List (List ℕ)) (block : List ℕ) → AreTold t us blocks
     → option_map (λ p. p.1) (find (λ p. same_update u p.0) (zip us blocks)) ≡ Some block → IsBlockOf t u block
 told-found t u [] blocks block told e = cc
@@ -113,7 +113,7 @@ opened-known s t x c key u block good e =
     told-found t u (promised_updates s.cap c.terms c.role) (opened_blocks s.cap c.terms c.role c.cipher key) block
     (good_told s.shape.id x s.cap c.terms c.role c.cipher key t g.0 g.1) e
 
--- what an admitted datagram adds is the block that the table has the digest of
+-- what an admitted datagram adds is the block whose digest the table has
 from-known : (me : Member) (before : Log) (u : UpdateId) (m : Message) (b : Body) (block : List ℕ) → is_row_met me (known me before) m.from m.to b ≡ true
     → block_from me.session before u m b ≡ Some block → IsBlockOf (table before) u block
 from-known me before u m (Block v block') block row e = go (same_update u v) refl e
@@ -151,7 +151,7 @@ pub admitted-signed : (me : Member) (before : Log) (d : Datagram) → is_admitte
 unfolding is_admitted
 admitted-signed me before d e = (and_parts _ _ (and_parts _ _ (and_parts _ _ e).0).0).1
 
--- each held block is the one that the table has the digest of
+-- each held block is the one whose digest the table has
 pub held-known : (me : Member) (log : Log) (u : UpdateId) (block : List ℕ) → IsObedient me log → block_of me.session log u ≡ Some block → IsBlockOf (table log) u block
 held-known me log u block h e = at (find-of (λ before e. block_in me.session before u e) log block e)
   where
@@ -181,6 +181,6 @@ all-filter p (x ∷ xs) = go (p x) refl (all-filter p xs)
     go true h k = and_from _ _ h k
     go false h k = k
 
--- a history is within the table of its moment
+-- a history is within the table at that moment
 pub history-within : (me : Member) (log : Log) (round : ℕ) → IsObedient me log → is_within (table log) (history me.session (block_of me.session log) round) ≡ true
 history-within me log round h = held-within me log (history me.session (block_of me.session log) round) h (all-filter (is_held me.session log) (window_of me.session round))

@@ -1,4 +1,4 @@
--- Of one identity one message is said.
+-- One message of each identity is said.
 use Rattle.bar_rules.specs.Peer.Knowledge.{known}
 use Rattle.bar_rules.specs.Peer.Log.{Log, Entry, Said, table}
 use Rattle.bar_rules.specs.Member.{Member}
@@ -48,7 +48,7 @@ new-is-only me log x d e al p q i =
     let sign : IsSignedByRule me log d = subst (λ y. Allows me log y) p al in
     both_ways _ sign.rule.once (said-found (has_same_identity d.message) log e (was-said log e q) (identity-same d.message e.message i))
 
--- two said datagrams of one identity are one
+-- two said datagrams of one identity are equal
 pub unique : (me : Member) (log : Log) (d e : Datagram) → IsObedient me log → SaidIn log d → SaidIn log e → identity_of d.message ≡ identity_of e.message → d ≡ e
 unique me [] d e h p q i = absurd p
 unique me (x ∷ log) d e h (inl p) (inl q) i = cc
@@ -58,7 +58,7 @@ unique me (x ∷ log) d e h (inr p) (inr q) i = unique me log d e h.1 p q i
 
 -- ---- no framing
 
--- what two said messages show of themselves: never two messages of one identity
+-- two said messages never show that they are two messages of one identity
 pub never_twice : (me : Member) (log : Log) (d e : Datagram) → IsObedient me log → SaidIn log d → SaidIn log e → is_twice me.session d.message e.message ≡ false
 never_twice me log d e h p q = go (bytes_eq (identity_of d.message) (identity_of e.message)) refl
   where
@@ -68,7 +68,7 @@ never_twice me log d e h p q = go (bytes_eq (identity_of d.message) (identity_of
         let same : d ≡ e = unique me log d e h p q (same_bytes-is _ _ f) in
         rw same (ap not (bytes_eq-refl (message_bytes me.session e.message)))
 
--- where tables agree, what is within the one is not past the end of the other
+-- if tables agree, what is within the one is not past the end of the other
 agrees-past : (one two : Table) (u : UpdateId) → Agrees one two → is_known (digest_of one u) ≡ true → not (is_past_end (digest_of two u)) ≡ true
 agrees-past one two u h e = go (one u.round) (two u.round) refl refl e
   where

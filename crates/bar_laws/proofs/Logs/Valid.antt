@@ -101,7 +101,7 @@ inside_refl (u ∷ us) = and_from _ _ (or_left _ _ (same_self u)) (inside-more u
 
 -- ---- what was said or heard of a kind
 
--- a fact of each message that may be said and of each that may be admitted, where it lasts, is one of each spoken message
+-- a fact that lasts, of each message that may be said and of each that may be admitted, is a fact of each spoken message
 pub spoken-by : (me : Member) (log : Log) (d : Datagram) (P : Log → Message → Type 0) → WasSpoken log d → IsObedient me log
     → ((before : Log) → IsObedient me before → MaySign me before d.message → P before d.message)
     → ((before : Log) → IsObedient me before → is_for me d.message ≡ true → is_row_met me (known me before) d.message.from d.message.to d.message.body ≡ true → P before d.message)
@@ -120,7 +120,7 @@ spoken-by me log d P w h said heard lasts =
 
 -- ---- balanced terms
 
--- what a RESPONSE says is within the table
+-- the history in a RESPONSE is within the table
 abbrev AnswerWithin : Log → Message → Type 0
 AnswerWithin log m = (hb : List UpdateId) → history_in m.body ≡ Some hb → is_within (table log) hb ≡ true
 
@@ -243,7 +243,7 @@ query-heard me before from to (Query r seed young aged) q row e =
     rw (← a, ← b) (record { young_rounds = j.0; aged_rounds = j.1; young_len = k.0; aged_len = k.1; young_within = w.0; aged_within = w.1 })
 query-heard me before from to b q row e = absurd (no-value (offer_in b) q refl e)
 
--- what a QUERY offers is good
+-- the offer of a QUERY is good
 abbrev OfferGood : Member → Log → Message → Type 0
 OfferGood me log m = (q : List UpdateId × List UpdateId) → offer_in m.body ≡ Some q → IsGoodOffer me log (round_of m.body) q.0 q.1
 
@@ -280,7 +280,7 @@ spoken-offer me log x q h e = go (first_on me (known me log) kinds.Query x Initi
         (λ before k own row q e. query-heard me before d.message.from d.message.to d.message.body q row e)
         (λ before later w q e. good-lasts me log before (round_of d.message.body) q.0 q.1 later (w q e)) q e)
 
--- what a REPLY takes and gives fits the QUERY that stands before it
+-- what a REPLY takes and gives fits the QUERY before it
 pub record IsGoodAnswer (me : Member) (log : Log) (x : Exchange) (t : List UpdateId × List UpdateId × ℕ) : Type 0 where
   pub query : List UpdateId × List UpdateId
   pub stands : option_and_then offer_in (body_on me (known me log) kinds.Query x Initiator) ≡ Some query
@@ -289,7 +289,7 @@ pub record IsGoodAnswer (me : Member) (log : Log) (x : Exchange) (t : List Updat
 given-len : (w g : ℕ) → g ≤ w → w ≡ g + (w - g)
 given-len w g h = omega arith
 
--- what is wanted and given by the holdings of a moment fits what is offered
+-- what current holdings make wanted and given fits what is offered
 pub own-answer : (me : Member) (k : Knowledge) (young aged want give : List UpdateId) (junk : ℕ) → want ≡ wanted_of me k young → 0 < length want → give ≡ given_of me k young aged → junk ≡ length want - length give
     → answer_ok me.session.cap young aged want give junk ≡ true
 own-answer me k young aged want give junk a n b c =

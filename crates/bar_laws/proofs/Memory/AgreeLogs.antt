@@ -1,4 +1,4 @@
--- What agrees in what a peer keeps agrees again after the same entry.
+-- Knowledge that agrees in what a peer keeps agrees again after the same entry.
 use Rattle.bar_wire.specs.Bodies.{is_manifest_of, divulge_in}
 use Rattle.bar_window.specs.declared.update.UpdateId.{UpdateId}
 use Rattle.bar_window.specs.declared.exchange.Exchange.{Exchange}
@@ -30,7 +30,7 @@ or-same o p q r e f = λ i. option_or (e i) (f i)
 
 -- ---- bodies in time
 
--- the round of this moment is within the bound that admission sets for a message
+-- the current round is within the bound that admission sets for a message
 abbrev pub IsInTime : ℕ → ℕ → Body → Type 0
 IsInTime life now (Request r seed c) = now ≤ r + request_deadline
 IsInTime life now (Response r hb) = now ≤ r + answer_deadline
@@ -42,21 +42,21 @@ IsInTime life now (KeyReq r kind role) = now ≤ r + life
 IsInTime life now (Key k) = now ≤ k.round + life
 IsInTime life now _ = Unit {0}
 
--- what is promised stays alike, whatever is said
+-- what is promised agrees, whatever is said
 promised-more : (o p q : Option Datagram) → option_map promised_by o ≡ option_map promised_by p → option_map promised_by (option_or o q) ≡ option_map promised_by (option_or p q)
 promised-more (Some d) (Some e) q same = same
 promised-more None None q same = refl
 promised-more (Some d) None q same = cc
 promised-more None (Some e) q same = cc
 
--- of a round both have a manifest or neither has, whatever is heard
+-- both have a manifest of a round or neither has, whatever is heard
 listed-more : (o p q : Option Datagram) → is_some o ≡ is_some p → is_some (option_or o q) ≡ is_some (option_or p q)
 listed-more (Some d) (Some e) q both = refl
 listed-more None None q both = refl
 listed-more (Some d) None q both = cc
 listed-more None (Some e) q both = cc
 
--- then its list stays alike
+-- then the list of the round agrees
 list-more : (o p q : Option Datagram) (round : ℕ) → is_some o ≡ is_some p → lists_of (λ r. o) round ≡ lists_of (λ r. p) round → lists_of (λ r. option_or o q) round ≡ lists_of (λ r. option_or p q) round
 list-more (Some d) (Some e) q round both same = same
 list-more None None q round both same = refl
@@ -166,7 +166,7 @@ module _ (me : Member) (one two : Knowledge) (same : AgreesWith me one two) wher
   hear-agree d h =
       subst (λ k. AgreesWith me k (with_heard me d two)) (by-kind me d one d.message.body) (subst (λ k. AgreesWith me (grown me d one) k) (by-kind me d two d.message.body) (grow-agree d h))
 
-  -- a REQUEST commits to the history of its moment
+  -- a REQUEST commits to the history at that moment
   commit-same : (d : Datagram) (x : Exchange) → (kind_number d.message.body ≡ 3 → this_round one ≤ round_of d.message.body + answer_deadline)
       → then_some (is_of kinds.Request x Initiator d.message) (committed me one.block x) ≡ then_some (is_of kinds.Request x Initiator d.message) (committed me two.block x)
   commit-same d x h = go (is_of kinds.Request x Initiator d.message) refl

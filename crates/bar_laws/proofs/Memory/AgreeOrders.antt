@@ -1,4 +1,4 @@
--- A log, and what agrees with it in what a peer keeps, carry out the same orders alike.
+-- A log, and knowledge that agrees with it in what a peer keeps, carry out the same orders alike.
 use Rattle.bar_wire.specs.Bodies.{offer_in}
 use Rattle.bar_case.proofs.Blocks.{sealed_same}
 use Rattle.bar_terms.specs.Table.{is_known, digest_of}
@@ -40,7 +40,7 @@ use Rattle.bar_laws.proofs.Logs.{filter-same, some-equal, other-kind, parts-of, 
 
 -- ---- orders in time
 
--- for how many rounds what was said of a kind is told whole, by the life of an update
+-- for how many rounds what was said of a kind is represented in full, by the life of an update
 abbrev pub told_by : ℕ → Kind → ℕ
 told_by life kinds.Case = answer_deadline
 told_by life _ = life
@@ -53,7 +53,7 @@ told-in-life : (life : ℕ) (kind : Kind) → 2 ≤ life → told_by life kind �
 told-in-life life kinds.Case h = h
 told-in-life life _ h = omega arith
 
--- the first message of a side is told for as long as its exchange may be asked about
+-- the first message of a side is represented for as long as its exchange may be asked about
 told-request : (life : ℕ) (kind : XKind) → told_by life (request_kind kind) ≡ life
 told-request life Balanced = refl
 told-request life Push = refl
@@ -62,7 +62,7 @@ told-answer : (life : ℕ) (kind : XKind) → told_by life (answer_kind kind) �
 told-answer life Balanced = refl
 told-answer life Push = refl
 
--- the round of this moment is within the bound of an order
+-- the current round is within the bound of an order
 abbrev pub IsTimely : ℕ → ℕ → Order → Type 0
 IsTimely life at (Ask x) = at ≤ x.round + 1
 IsTimely life at (Answer x) = at ≤ x.round + request_deadline
@@ -73,13 +73,13 @@ IsTimely life at (GiveKey x) = at ≤ x.round + life
 IsTimely life at (Resend kind x) = at ≤ x.round + told_by life kind
 IsTimely life at (Report q) = Unit {0}
 
--- a message that may be said of an exchange: it is of its round, a REQUEST in time, and its windows are near to it
+-- a message that may be said of an exchange: it is of its round, a REQUEST in time, and its windows are near that round
 record IsSayable (life at : ℕ) (x : Exchange) (b : Body) : Type 0 where
   part : (p : ℕ × XKind × Role) → part_of b ≡ Some p → p.0 ≡ x.round
   soon : kind_number b ≡ 3 → at ≤ x.round + answer_deadline
   lives : BodyInLife life b
 
--- The outcomes agree: the log and what is known agree and are of this round, and the same was sent.
+-- The outcomes agree: the log and the knowledge agree and are of this round, and the same was sent.
 pub record IsAlike (me : Member) (at : ℕ) (a : Outcome Log) (b : Outcome Knowledge) : Type 0 where
   pub agree : AgreesWith me (known me a.state) b.state
   pub moment : round_now a.state ≡ at

@@ -1,4 +1,4 @@
--- A log, and what agrees with it in what a peer keeps, answer a datagram alike.
+-- A log, and knowledge that agrees with it in what a peer keeps, answer a datagram alike.
 use Rattle.bar_wire.specs.Bodies.{is_peer_kind}
 use Rattle.bar_wire.specs.declared.kind.Kind.{Kind}
 use Rattle.bar_window.specs.Exchange.{other_role, same_exchange}
@@ -38,7 +38,7 @@ use Rattle.bar_laws.proofs.Memory.InLife.{BodyInLife, LogInLife, of-round}
 
 -- ---- the orders for a datagram
 
--- new messages are in time; what comes again may be late
+-- new messages are in time; repeated ones may be late
 abbrev IsNewInTime : ℕ → ℕ → Bool → Body → Type 0
 IsNewInTime life at is_new b = is_new ≡ true → IsInTime life at b
 
@@ -200,7 +200,7 @@ repeated-like me k d c e = go (k.is_announced d.message.from) (heard_like k d.me
     go false None e = cc
     go false (Some a) e = tested _ a e
 
--- what comes again of a round that isn't recent is not answered
+-- a repeated datagram of a round that isn't recent is not answered
 stale-answer : {S : Type 0} (w : Keeping S) (me : Member) (s : S) (d : Datagram) (p : ℕ × XKind × Role) → 2 ≤ me.session.shape.life
     → ((kind : Kind) (x : Exchange) (role : Role) (c : Datagram) → (w.reads s).heard kind x role ≡ Some c → is_of kind x role c.message ≡ true)
     → part_of d.message.body ≡ Some p → p.0 + me.session.shape.life < this_round (w.reads s) → machine.answer_repeat w me s (repeated me (w.reads s) d) ≡ begun s

@@ -1,4 +1,4 @@
--- What agrees in what a peer keeps admits the same datagrams.
+-- Knowledge that agrees in what a peer keeps admits the same datagrams.
 use Rattle.bar_wire.specs.Limits.{seats_a_round}
 use Rattle.bar_wire.specs.Bodies.{history_in, offer_in, reply_in, commitment_in}
 use Rattle.bar_terms.specs.Table.{Table, digest_of, is_within}
@@ -37,7 +37,7 @@ use Rattle.bar_bytes.proofs.Options.{some-mapped}
 
 -- ---- tests
 
--- both sides of a test are the same where what stands beside it holds
+-- both sides of a test are the same if the condition beside it holds
 and_first : (a b c : Bool) → (c ≡ true → a ≡ b) → (a && c) ≡ (b && c)
 and_first a b true f = ap (λ z. z && true) (f refl)
 and_first true true false f = refl
@@ -129,7 +129,7 @@ module _ (me : Member) (one two : Knowledge) (same : AgreesWith me one two) wher
       go Balanced = λ i. trade_terms (same.commits x r i) (option_and_then history_in (body-same kinds.Response x Responder r r i))
       go Push = λ i. offer_terms (option_and_then offer_in (body-same kinds.Query x Initiator r r i)) (option_and_then reply_in (body-same kinds.Reply x Responder r r i))
 
-  -- what is offered and lacked
+  -- what is offered and what is missing
   pub wanted-same : (round : ℕ) (young : List UpdateId) → this_round one ≤ round + answer_deadline → InLife me.session.shape.life round young → wanted_of me one young ≡ wanted_of me two young
   wanted-same round young h e =
       let p : UpdateId → Bool = holds one in
@@ -149,7 +149,7 @@ module _ (me : Member) (one two : Knowledge) (same : AgreesWith me one two) wher
     recent-by : (r : ℕ) (k : XKind) (role : Role) (f t : ℕ) → this_round one ≤ r + me.session.shape.life → IsRecent me one (exchange_by r k role f t).round
     recent-by r k role f t h = subst (λ z. this_round one ≤ z + me.session.shape.life) (sym (round-by r k role f t)) h
 
-    -- a request comes a round early at most, and in time
+    -- a request is at most a round early, and in time
     is_near : XKind → ℕ → ℕ → Bool
     is_near kind round n = nat_le round (n + 1) && nat_le n (round + deadline me.session (request_kind kind))
 

@@ -1,4 +1,4 @@
--- What agrees has the same totals.
+-- Knowledge that agrees has the same totals.
 use Rattle.bar_window.specs.Exchange.{other_role}
 use Rattle.bar_window.specs.Terms.{Terms}
 use Rattle.bar_window.specs.declared.exchange.Exchange.{Exchange}

@@ -1,4 +1,4 @@
--- A log, and what agrees with it, go on alike over a list of inputs.
+-- A log, and knowledge that agrees with it, continue alike over a list of inputs.
 use Rattle.bar_rules.specs.Peer.Agreement.{AgreesWith}
 use Rattle.bar_rules.specs.Peer.Knowledge.{Knowledge, known}
 use Rattle.bar_rules.specs.Peer.Log.{Log}

@@ -1,4 +1,4 @@
--- The windows that a log tells: each update of one is of a round so near to the window's that it is alive in it.
+-- The windows that a log has: each update of one is of a round so near the window's that it is alive in it.
 use Rattle.bar_wire.specs.Bodies.{divulge_in, history_in, offer_in, reply_in}
 use Rattle.bar_terms.specs.Table.{is_known, digest_of}
 use Rattle.bar_terms.specs.Terms.{promised_updates, trade_count}
@@ -103,7 +103,7 @@ BodyInLife life (Query r seed young aged) = InLife life r young × InLife life r
 BodyInLife life (Reply r want give junk) = InLife life r want × InLife life r give
 BodyInLife life _ = Unit {0}
 
--- what has a spelling
+-- what has an encoding
 pub form-in-life : (s : Session) (b : Body) → HasForm s.shape b → BodyInLife s.shape.life b
 form-in-life s (Response r hb) h = set-in-life s r hb h.1
 form-in-life s (Divulge r nonce ha) h = set-in-life s r ha h.2
@@ -159,7 +159,7 @@ of-round kind x role m p e part =
     let same : p ≡ (w.round, w.sort, role) = cc in
     ap (λ (z : ℕ × XKind × Role). z.0) same ∙ sym (round-by w.round w.sort role m.from m.to) ∙ ap (λ (z : Exchange). z.round) w.exchange
 
--- the body that stands on a side of an exchange
+-- the body on a side of an exchange
 record IsBodyOf (life round : ℕ) (b : Body) : Type 0 where
   lives : BodyInLife life b
   at : (p : ℕ × XKind × Role) → part_of b ≡ Some p → p.0 ≡ round

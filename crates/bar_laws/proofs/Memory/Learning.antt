@@ -1,4 +1,4 @@
--- What a log tells after one more entry is what it told before, with the entry.
+-- The knowledge that a log represents after one more entry is the knowledge before, with the entry.
 use Rattle.bar_wire.specs.Bodies.{is_manifest_of, divulge_in}
 use Rattle.bar_wire.specs.declared.kind.Kind.TheVariants as kinds
 use Rattle.bar_window.specs.Updates.{same_update}
@@ -92,7 +92,7 @@ not-asking n Push e f = f
 abbrev with_body : Datagram → Body → Datagram
 with_body d b = record { message = record { from = d.message.from; to = d.message.to; body = b }; signature = d.signature }
 
--- what is the same whatever is heard, but for these
+-- what is the same whatever is heard, except for these
 module _ (me : Member) (d : Datagram) (k : Knowledge) where
   -- a message that is of no exchange
   apart : (b : Body) → part_of b ≡ None → (kind : Kind) (x : Exchange) (role : Role) → is_of kind x role (with_body d b).message ≡ false

@@ -1,5 +1,5 @@
--- The exchanges in which messages were signed stand in order, and those that may still be asked about are the same whether they are picked
--- before one more is put in or after.
+-- The exchanges in which messages were signed are in order. Those that may still be asked about are the same whether they are picked before
+-- one more is inserted or after.
 use Rattle.bar_window.specs.Exchange.{same_exchange}
 use Rattle.bar_window.specs.declared.exchange.Exchange.{Exchange}
 use Rattle.bar_rules.specs.Peer.Exchanges.{precedes, inserted, IsRising, with_exchange, exchange_said, exchanges_said}
@@ -32,7 +32,7 @@ all-picked P p (x ∷ xs) h = go (p x) (all-picked P p xs h.1)
     go true w = (h.0, w)
     go false w = w
 
--- what stands before all is put first
+-- an exchange that precedes all others is inserted first
 inserted-first : (x : Exchange) (xs : List Exchange) → AllByRecursion (λ y. precedes x y ≡ true) xs → inserted x xs ≡ x ∷ xs
 inserted-first x [] h = refl
 inserted-first x (y ∷ ys) h = rw (precedes-differs x y h.0, h.0) refl

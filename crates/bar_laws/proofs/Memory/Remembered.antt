@@ -1,4 +1,4 @@
--- A memory that writes again what was said has the very datagrams that were said.
+-- A memory that writes again what was said has exactly the datagrams that were said.
 use Rattle.bar_rules.specs.Peer.Agreement.{AgreesWith, IsRecent, IsRepeatable, promised_by}
 use Rattle.bar_rules.specs.Peer.Exchanges.{role_of}
 use Rattle.bar_rules.specs.Peer.Knowledge.{Knowledge, known, this_round, answer_deadline}
@@ -135,11 +135,11 @@ module _ (me : Member) (log : Log) (two : Knowledge) (h : IsObedient me log) (li
   mine : IsRewritten me (known me log)
   mine = rewritten me log h
 
-  -- both have a mark of the own side, or neither
+  -- both have a mark of the own side, or neither has
   mark : (kind : Kind) (x : Exchange) (role : Role) → IsRecent me (known me log) x.round → role ≡ role_of me x → is_some (first_said (is_of kind x role) log) ≡ is_some (two.said kind x role)
   mark kind x role r e = subst (λ z. is_some (first_said (is_of kind x z) log) ≡ is_some (two.said kind x z)) (sym e) (same.marks kind x r)
 
-  -- what follows from both datagrams of the own side is alike
+  -- what follows from the datagrams of the own side agrees
   by-both : {A : Type 0} (f : Datagram → A) (kind : Kind) (x : Exchange) (role : Role) → IsRecent me (known me log) x.round
       → ((d c : Datagram) → first_said (is_of kind x (role_of me x)) log ≡ Some d → two.said kind x (role_of me x) ≡ Some c → f d ≡ f c)
       → option_map f (first_said (is_of kind x role) log) ≡ option_map f (two.said kind x role)

@@ -35,7 +35,7 @@ use Rattle.bar_laws.specs.Growing.{IsLater}
 use Rattle.bar_laws.proofs.Logs.{is_of-is, party-on, receiver-on, sender-on, WasSaid, later-entry, find-later, first_said-was, some-is, terms_of-later, parts-of, IsSaying, saying, first_on-own, said-in}
 use Rattle.bar_laws.proofs.Runs.{said-sealed}
 
--- ---- blocks that are held stay
+-- ---- blocks that are held remain held
 
 held-stays : (s : Session) (log before : Log) (us : List UpdateId) → IsLater log before → AllHeld s before us → AllByRecursion (λ u. block_of s before u ≡ block_of s log u) us
 held-stays s log before [] later e = tt
@@ -44,7 +44,7 @@ held-stays s log before (u ∷ us) later e =
     let b = some-is (block_of s before u) p.0 in
     (b.1 ∙ sym (find-later (λ before e. block_in s before u e) log before b.0 later b.1), held-stays s log before us later p.1)
 
--- what the log tells of the own side
+-- what the log has of the own side
 own-body : (me : Member) (log : Log) (kind : Kind) (x : Exchange) (role : Role) (d : Datagram) → role ≡ role_of me x → first_said (is_of kind x (role_of me x)) log ≡ Some d
     → body_on me (known me log) kind x role ≡ Some d.message.body
 own-body me log kind x role d side e =
@@ -53,7 +53,7 @@ own-body me log kind x role d side e =
 
 -- ---- each kind's body
 
--- where the REQUEST was said, what it commits to is revealed
+-- if the REQUEST was said, what it commits to is revealed
 is-revealed : (me : Member) (log : Log) (x : Exchange) (d : Datagram) (w : WasSaid log d) → is_of kinds.Request x Initiator d.message ≡ true → (a : List ℕ × List UpdateId) × (revealed me log x ≡ Some a)
 is-revealed me log x d w i =
     let now = some-is (revealed me (Said d ∷ w.before) x) (or-second (revealed me w.before x) (revealed_in me w.before x (Said d)) (rw i refl)) in

@@ -1,4 +1,4 @@
--- How the parts of what a log tells hang together.
+-- How the parts of what a log represents are related.
 use Rattle.bar_wire.specs.Bodies.{is_manifest_of}
 use Rattle.bar_wire.specs.declared.kind.Kind.TheVariants as kinds
 use Rattle.bar_wire.specs.Datagram.{Datagram, Body, Manifest, Briefcase, is_of}
@@ -44,9 +44,9 @@ manifest-near me log round h e =
     let later : round_now was.0.before ≤ round_now log = round-later log was.0.before (later-entry log was.0.before (Heard f.0) was.0.place) in
     omega (arith, near, later)
 
--- ---- what a CASE gives
+-- ---- what follows from a CASE
 
--- who said a CASE of its side of an exchange is on this side
+-- a member that said a CASE of its side of an exchange is on this side
 case-party : (me : Member) (log : Log) (x : Exchange) → IsObedient me log → has_said (is_of kinds.Case x (role_of me x)) log ≡ true → party_on x (role_of me x) ≡ me.party
 case-party me log x h e =
     let f = some-is (first_said (is_of kinds.Case x (role_of me x)) log) e in
@@ -64,9 +64,9 @@ can-give me log x t h e f =
           (promise-held me log x (role_of me x) t h (case-party me log x h e) refl f);
     }
 
--- ---- what a CASE of the other side has
+-- ---- what a CASE of the other side contains
 
--- where a briefcase was found, a CASE was heard
+-- if a briefcase was found, a CASE was heard
 pub found-heard : (o : Option Datagram) (c : Briefcase) → case_in o ≡ Some c → is_some o ≡ true
 found-heard (Some d) c e = refl
 found-heard None c e = absurd (cc)

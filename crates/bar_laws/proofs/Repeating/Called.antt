@@ -42,7 +42,7 @@ use Rattle.bar_laws.specs.Growing.{IsLater}
 use Rattle.bar_laws.proofs.Logs.{all-both, all-map, all-of, when-all, again-all, tick-all, some-more, some-is, heard-found, first_said-was, saying, party-on, party-over, is_of-is, parts-of, receiver-role, was-heard-own, WasHeard, some-equal, reads-back}
 use Rattle.bar_laws.proofs.Runs.{evidence-obedient, repeated-heard, heard-more, names-itself, step-obedient, run-later}
 
--- ---- what is said and sent, and what called it forth
+-- ---- what is said and sent, and what it answers
 
 -- the partner's message of a kind is admitted
 abbrev pub HasTheirs : Member → Log → Kind → Exchange → Type 0
@@ -56,7 +56,7 @@ is_own me kind x m = is_of kind x (role_of me x) m
 abbrev pub KeysAreCalled : Member → Log → Type 0
 KeysAreCalled me log = (x : Exchange) → has_said (is_own me kinds.Key x) log ≡ true → HasTheirs me log kinds.KeyReq x
 
--- a KEYREQ is sent by who has the CASE
+-- a KEYREQ is sent by a member that has the CASE
 abbrev pub IsCalled : Member → Log → ℕ × Datagram → Type 0
 IsCalled me log send = (x : Exchange) → is_own me kinds.KeyReq x send.1.message ≡ true → HasTheirs me log kinds.Case x
 
@@ -64,11 +64,11 @@ record AreCalled (me : Member) (out : Out) : Type 0 where
   keys : KeysAreCalled me out.state
   requests : AllByRecursion (IsCalled me out.state) out.sends
 
--- the exchange is one of this member's, on the side that its role says
+-- the exchange is one of this member's, on the side of its role
 abbrev IsOwn : Member → Exchange → Type 0
 IsOwn me x = party_on x (role_of me x) ≡ me.party
 
--- what is ordered was called forth
+-- each order answers something
 abbrev MayCall : Member → Log → Order → Type 0
 MayCall me log (GiveKey x) = IsOwn me x × HasTheirs me log kinds.KeyReq x
 MayCall me log (AskKey x) = IsOwn me x × HasTheirs me log kinds.Case x
@@ -205,7 +205,7 @@ perform-called me out (Reveal x) may c = if-called me out _ _ (reveal-plain x.ro
 perform-called me out (AskKey x) may c = request-called me out x may c
 perform-called me out (Report q) may c = if-called me out 0 _ (report-plain _) c
 
--- ---- orders go on
+-- ---- orders that follow
 
 later-may : (me : Member) (log : Log) (d : Datagram) (o : Order) → MayCall me log o → MayCall me (Said d ∷ log) o
 later-may me log d (GiveKey x) m = (m.0, theirs-said me log d kinds.KeyReq x m.1)
@@ -217,7 +217,7 @@ later-may me log d (Reveal x) m = tt
 later-may me log d (GiveCase x) m = tt
 later-may me log d (Report q) m = tt
 
--- what an order leaves has what stood before it
+-- the log after an order contains what was there before
 say-may : (me : Member) (out : Out) (kind : Kind) (x : Exchange) (o : Option Body) (p : Order) → MayCall me out.state p → MayCall me (say me out kind x o).state p
 say-may me out kind x o p m = go (first_said (is_own me kind x) out.state) o
   where

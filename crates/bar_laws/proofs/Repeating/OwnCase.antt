@@ -42,7 +42,7 @@ use Rattle.bar_laws.proofs.Memory.{opened-rising}
 use Rattle.bar_laws.proofs.Repeating.Sends.{Repeats, still-sends}
 use Rattle.bar_laws.proofs.Repeating.OtherCases.{IsApart, sends-none, again-apart}
 
--- ---- an open exchange stands once
+-- ---- an open exchange occurs once
 
 kept-rising : (p : Exchange → Bool) (xs : List Exchange) → IsRising xs → IsRising (filter p xs)
 kept-rising p [] h = h
@@ -86,7 +86,7 @@ open-once me log x d e recent =
     (λ y s. subst (λ z. nat_le (round_now log) (z.round + me.session.shape.life) ≡ true) (same_exchange-is x y s) (le-leb (round_now log) (x.round + me.session.shape.life) recent))
     ∙ any-said (same_exchange x) log d x (said-in log d was.0) (exchange-is kinds.Case x (role_of me x) d.message was.1) (same_exchange_refl x))
 
--- ---- who has said its CASE has its answer, and what the exchange was begun with
+-- ---- a member that has said its CASE has its answer, and what the exchange was begun with
 
 answer-part : {A : Type 0} (f : Body → Option A) (me : Member) (log : Log) (kind : Kind) (x : Exchange) (c : A) → role_of me x ≡ Initiator → option_and_then f (body_on me (known me log) kind x Responder) ≡ Some c
     → has_heard (is_of kind x Responder) log ≡ true
@@ -140,7 +140,7 @@ tick-sends : (me : Member) (log : Log) → ticks log < last_tick me.session → 
 unfolding machine.step
 tick-sends me log early = ap (λ b. (cond b (begun log) (take_input me log event.Tick)).sends) (lt-leb (last_tick me.session) (ticks log) early)
 
--- the orders for an open exchange, and those behind them
+-- the orders for an open exchange, and those after them
 abbrev old_orders : Member → Knowledge → Exchange → List Order
 old_orders me k y = orders_when (not (k.is_announced (partner_in me y))) (again me k y)
 
@@ -213,7 +213,7 @@ module _ (me : Member) (log : Log) (x : Exchange) (d : Datagram) (h : IsObedient
       go Initiator side = ap (λ b. not b && time) (has-answer me now x terms-now.0 side terms-now.1)
       go Responder side = refl
 
-  -- what stands before it
+  -- what precedes it
   abbrev front_of : XKind → Role → Bool → List (ℕ × Datagram)
   front_of sort r heard = (perform_all me (begun now) (orders_when (not heard) (reveals sort r x))).sends
 
@@ -235,7 +235,7 @@ module _ (me : Member) (log : Log) (x : Exchange) (d : Datagram) (h : IsObedient
   divulge-none Push Responder true e = refl
   divulge-none Push Responder false e = refl
 
-  -- what stands after it
+  -- what follows it
   back-is : (perform_all me (begun now) (orders_when (has_partners_case me k x) (AskKey x ∷ []))).sends ≡ key_requests me k x
   back-is = go (has_partners_case me k x)
     where

@@ -1,4 +1,4 @@
--- What orders send, one behind the other.
+-- What orders send, one after another.
 use Rattle.bar_wire.specs.Datagram.{Datagram, Body, KeyReq, is_of}
 use Rattle.bar_wire.specs.declared.kind.Kind.TheVariants as kinds
 use Rattle.bar_wire.specs.declared.kind.Kind.{Kind}
@@ -18,7 +18,7 @@ pub all-append : (me : Member) (out : Out) (os ps : List Order) → perform_all 
 all-append me out [] ps = refl
 all-append me out (o ∷ os) ps = all-append me (perform me out o) os ps
 
--- What an order leaves follows from the log, and what it sends stands behind what was sent.
+-- What an order leaves depends on the log, and what it sends follows what was sent before.
 record Follows (out new started : Out) : Type 0 where
   state : new.state ≡ started.state
   sends : new.sends ≡ out.sends ++ started.sends
@@ -99,6 +99,6 @@ pub all-still : (me : Member) (os : List Order) (out : Out) → AllByRecursion R
 all-still me [] out r = refl
 all-still me (o ∷ os) out r = all-still me os (perform me out o) r.1 ∙ perform-still me out o r.0
 
--- so what stands behind them goes by the same log
+-- so the orders after them depend on the same log
 pub still-sends : (me : Member) (log : Log) (os ps : List Order) → AllByRecursion Repeats os → (perform_all me (begun log) (os ++ ps)).sends ≡ (perform_all me (begun log) os).sends ++ (perform_all me (begun log) ps).sends
 still-sends me log os ps r = all-sends me log os ps ∙ ap (λ l. (perform_all me (begun log) os).sends ++ (perform_all me (begun l) ps).sends) (all-still me os (begun log) r)

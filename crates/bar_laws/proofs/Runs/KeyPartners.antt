@@ -1,4 +1,4 @@
--- A KEY that is sent goes to the member's partner in its exchange.
+-- A KEY that is sent is for the member's partner in its exchange.
 use Rattle.bar_wire.specs.declared.kind.Kind.TheVariants as kinds
 use Rattle.bar_rules.specs.Peer.Exchanges.{role_of}
 use Rattle.bar_rules.specs.Peer.Log.{Log}

@@ -47,7 +47,7 @@ use Rattle.bar_laws.proofs.Logs.{all-of, all-map, when-all, again-all, tick-all,
 use Rattle.bar_bytes.proofs.Tests.{eqb_refl}
 use Rattle.bar_bytes.proofs.Options.{or-none}
 
--- this member is on the side that its role says
+-- this member is on the side of its role
 pub record IsParty (me : Member) (x : Exchange) : Type 0 where
   pub on : party_on x (role_of me x) ≡ me.party
   pub low : 1 ≤ x.round
@@ -76,7 +76,7 @@ pub record IsRequest (me : Member) (log : Log) (x : Exchange) : Type 0 where
   pub unowed : owes me (known me log) x.responder ≡ false
   pub some_young : x.kind ≡ Push → 0 < length (young_of me (known me log) x.round)
 
--- what may be ordered: it stands while more is said
+-- an order that may be given: it remains so while more is said
 abbrev pub MayBeOrdered : Member → Log → Order → Type 0
 MayBeOrdered me log (Ask x) = (has_said (is_of (request_kind x.kind) x (role_of me x)) log ≡ true) ⊎ IsRequest me log x
 MayBeOrdered me log (Answer x) = IsParty me x × (role_of me x ≡ Responder) × (has_heard (is_of (request_kind x.kind) x Initiator) log ≡ true)
@@ -145,7 +145,7 @@ give_case-rule me log x b h s e = go (terms_of me (known me log) x) refl e
           };
         })
 
--- a briefcase that was heard has the terms of the log, and its counts, and the other side has said one
+-- a briefcase that was heard has the terms of the log and its counts, and the other side has said one
 pub record HeardCase (me : Member) (log : Log) (x : Exchange) (role : Role) : Type 0 where
   pub case : Briefcase
   pub found : case_heard_from log x role ≡ Some case
@@ -392,16 +392,16 @@ perform-obedient me out (Reveal x) h s = subst (λ l. IsObedient me l) (sym (sen
 perform-obedient me out (AskKey x) h s = h
 perform-obedient me out (Report q) h s = subst (λ l. IsObedient me l) (sym (send_if-log me out _ _)) h
 
--- ---- orders go on standing
+-- ---- orders remain allowed
 
--- the orders of a tick say nothing new but requests
+-- the orders of a tick say nothing new except requests
 abbrev pub GivesNothing : Order → Type 0
 GivesNothing (Answer x) = ⊥
 GivesNothing (GiveCase x) = ⊥
 GivesNothing (GiveKey x) = ⊥
 GivesNothing _ = Unit {0}
 
--- those for a datagram ask nobody
+-- the orders for a datagram ask nobody
 abbrev pub AsksNobody : Order → Type 0
 AsksNobody (Ask x) = ⊥
 AsksNobody _ = Unit {0}
@@ -439,7 +439,7 @@ asks-no-key me k x b e = go x.kind e
     go Balanced e = let same : ask_body me k x Balanced ≡ b = cc in subst (λ z. eqb (kind_number z) 10 ≡ false) same refl
     go Push e = let same : ask_body me k x Push ≡ b = cc in subst (λ z. eqb (kind_number z) 10 ≡ false) same refl
 
--- so at a tick no KEY is said
+-- hence no KEY is said at a tick
 pub tick-grows : (me : Member) (out : Out) (o : Order) → GivesNothing o → SaysOne IsNoKey out.state (perform me out o).state
 tick-grows me out (Ask x) g = say-grows IsNoKey me out _ x _ (λ b e. asks-no-key me (known me out.state) x b e)
 tick-grows me out (Resend kind x) g = say-grows IsNoKey me out kind x None (λ b e. cc)
@@ -474,7 +474,7 @@ worth-said me log d x e = go (terms_of me (known me log) x) refl e
         let g : terms_of me (known me (Said d ∷ log)) x ≡ Some t = terms_of-later me (Said d ∷ log) log x t (record { new = Said d ∷ []; split = refl }) f in
         subst (λ o. is_trade_worth me.session o ≡ true) (sym g) e
 
--- a message makes nobody a debtor, or nobody is asked
+-- a message makes no party a debtor, or nobody is asked
 abbrev MayFollow : Datagram → Order → Type 0
 MayFollow d o = IsNoKey d ⊎ AsksNobody o
 

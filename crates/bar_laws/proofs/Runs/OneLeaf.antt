@@ -99,7 +99,7 @@ seat_by-below me log (Some p) h = go (seat log p.exchange) refl
     go None e = omega arith
     go (Some n) e = seat-few me log p.exchange n h e
 
--- ---- what stands before a message
+-- ---- what precedes a message
 
 -- the first message of this member's side of an exchange is said
 abbrev pub IsExchangeOpened : Log → ℕ → XKind → Role → ℕ → ℕ → Type 0
@@ -130,7 +130,7 @@ key-begun me before r k role to h w =
     said-more (is_of (opening_kind k role) x role) before w.1.was.before (later-entry before w.1.was.before (Said d) w.1.was.place)
     (sym (λ i. has_said (is_of (opening_kind (sort i) (part.2 i)) (same i) (part.2 i)) w.1.was.before) ∙ begun)
 
--- a responder's first message is said where the request is heard
+-- a responder's first message is said if the request is heard
 first-asked : (me : Member) (log : Log) (r : ℕ) (k : XKind) (to : ℕ) → IsObedient me log → IsExchangeOpened log r k Responder me.party to → has_heard (is_of (request_kind k) (exchange_by r k Responder me.party to) Initiator) log ≡ true
 first-asked me log r k to h e = at (some-is _ e)
   where
@@ -158,8 +158,8 @@ first-asked me log r k to h e = at (some-is _ e)
 
 -- ---- a message that may be signed
 
--- What a message that may be signed is: its round, kind and side; before it stands the first message of its side, unless it is that, and for a
--- responder the request.
+-- What a message that may be signed is: its round, kind and side. Unless it is the first message of its side, that one precedes it; for a
+-- responder the request does.
 pub record Placed (me : Member) (before : Log) (m : Message) : Type 0 where
   pub round : ℕ
   pub kind : XKind
@@ -253,7 +253,7 @@ one-request me log r k s t h a b = go k a b
 pub has-seat : (me : Member) (log : Log) (r : ℕ) (k : XKind) (to : ℕ) → has_heard (is_of (request_kind k) (exchange_by r k Responder me.party to) Initiator) log ≡ true → (n : ℕ) × (seat log (exchange_by r k Responder me.party to) ≡ Some n)
 has-seat me log r k to e = some-is _ (seat-of log (exchange_by r k Responder me.party to) e)
 
--- two messages of one round, kind and side that were said went to one partner, where a responder's have one seat
+-- two messages of one round, kind and side that were said went to one partner; for a responder they have one seat
 one-partner : (me : Member) (log : Log) (s t : ℕ) (r : ℕ) (k : XKind) (role : Role) → IsObedient me log → IsExchangeOpened log r k role me.party s → IsExchangeOpened log r k role me.party t
     → (role ≡ Responder → unwrap_or (seat log (exchange_by r k role me.party s)) 0 ≡ unwrap_or (seat log (exchange_by r k role me.party t)) 0) → s ≡ t
 one-partner me log s t r k Initiator h p q same = one-request me log r k s t h p q
@@ -285,7 +285,7 @@ named-by (Case c) p f t h e = let w = parts-of (c.round, c.kind, c.role) p e in 
 named-by (Key k) p f t h e = let w = parts-of (k.round, k.kind, k.role) p e in rw (w.0, w.1, w.2) refl
 named-by _ p f t h e = cc
 
--- two datagrams that were said with one leaf are one
+-- two datagrams that were said with one leaf are equal
 pub one-leaf : (me : Member) (log : Log) (d e : Datagram) → IsObedient me log → WasSaid log d → WasSaid log e → leaf_for (known me log) d.message ≡ leaf_for (known me log) e.message → d ≡ e
 one-leaf me log d e h v w leaf = unique me log d e h (said-in log d v) (said-in log e w) names
   where

@@ -65,7 +65,7 @@ said-contains (x ∷ log) d (inr p) = let c = said-contains log d p in (suc c.0,
 
 -- ---- sends
 
--- what was sent goes to the receiver that it names, and was said if it is signed
+-- what was sent is for the receiver that it names, and was said if it is signed
 pub record IsSent (log : Log) (s : ℕ × Datagram) : Type 0 where
   pub to : s.0 ≡ s.1.message.to
   pub said : is_signed s.1.message.body ≡ true → SaidIn log s.1
@@ -77,7 +77,7 @@ sent-by me log s b to = record { to = to; said = λ signed. go signed b }
     go signed (inl p) = p
     go signed (inr p) = absurd (both_ways _ p.1.unsigned_kind signed)
 
--- each datagram goes to the receiver that it names
+-- each datagram is sent to the receiver that it names
 abbrev pub IsAddressed : ℕ × Datagram → Type 0
 IsAddressed s = s.0 ≡ s.1.message.to
 
@@ -139,7 +139,7 @@ all-sent : (me : Member) (log : Log) (sends : List (ℕ × Datagram)) → AllByR
 all-sent me log [] a b = tt
 all-sent me log (s ∷ sends) a b = (sent-by me log s a.0 b.0, all-sent me log sends a.1 b.1)
 
--- of a send with its input's number
+-- for a send with its input's number
 abbrev pub IsSentAs : Log → ℕ × ℕ × Datagram → Type 0
 IsSentAs log s = IsSent log (s.1, s.2)
 
@@ -177,7 +177,7 @@ any-said log x role (s ∷ sends) a e = go (or_cases _ _ e) (any-said log x role
     go (inl here) f = said-found (is_of kinds.Key x role) log s.2 (was-said log s.2 (a.0.said (key-signed x role s.2.message here))) here
     go (inr there) f = f there
 
--- a key that was sent was said: then both briefcases stand
+-- a key that was sent was said, so both briefcases are there
 pub run-balanced : (me : Member) (inputs : List Input) (x : Exchange) → IsObedient me (log_after me [] inputs) → IsBalanced (totals_of me inputs x)
 run-balanced me inputs x h = go (key_was_sent me x (sends_of me inputs)) refl
   where

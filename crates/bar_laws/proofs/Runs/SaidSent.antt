@@ -69,7 +69,7 @@ module _ (p : Message → Bool) where
 
   -- ---- what one input sends
 
-  -- what was said since that log is sent
+  -- what was said after that log is sent
   abbrev IsSent : Log → Out → Type 0
   IsSent log out = has_said p out.state ≡ true → (has_said p log ≡ true) ⊎ (list_any (λ s. p s.1.message) out.sends ≡ true)
 
@@ -178,7 +178,7 @@ module _ (p : Message → Bool) where
       later (inl h) = now (step-sent me log i h)
       later (inr h) = inr (any-back (λ s. p s.2.message) here behind h)
 
--- a key was sent exactly where one was said
+-- a key was sent if and only if one was said
 pub said-keys : (me : Member) (inputs : List Input) (x : Exchange) → key_was_sent me x (sends_of me inputs) ≡ has_said_of (known me (log_after me [] inputs)) kinds.Key x (role_of me x)
 said-keys me inputs x =
     same_tests _ _

@@ -30,7 +30,7 @@ asks-counts x m e = go x.kind m.body e
     go Balanced _ e = cc
     go Push _ e = cc
 
--- one message asks for one exchange
+-- one message asks for only one exchange
 asks-one : (x y : Exchange) (m : Message) → x.kind ≡ y.kind → is_of (request_kind x.kind) x Initiator m ≡ true → is_of (request_kind y.kind) y Initiator m ≡ true → x ≡ y
 asks-one x y m k e f = go (part_of m.body) (and_parts _ _ e).1 (and_parts _ _ f).1
   where
@@ -39,7 +39,7 @@ asks-one x y m k e f = go (part_of m.body) (and_parts _ _ e).1 (and_parts _ _ f)
     go None e f = cc
     go (Some p) e f = sym (same_exchange-is _ x (and_parts _ _ e).0) ∙ same_exchange-is _ y (and_parts _ _ f).0
 
--- what a new seat is: the count so far, at a request of this exchange
+-- a new seat is the count so far, at a request of this exchange
 pub new-seat : (log : Log) (x : Exchange) (e : Entry) (n : ℕ) → option_map (λ d. count_heard (has_kind_and_round (request_kind x.kind) x.round) log) (if_passes (is_of (request_kind x.kind) x Initiator) (heard_in e)) ≡ Some n
     → (n ≡ count_heard (has_kind_and_round (request_kind x.kind) x.round) log) × ((d : Datagram) × (heard_in e ≡ Some d) × (is_of (request_kind x.kind) x Initiator d.message ≡ true))
 new-seat log x e n h = go (if_passes (is_of (request_kind x.kind) x Initiator) (heard_in e)) refl h
@@ -84,7 +84,7 @@ both-new log x y e n k a b =
     let same : a.0 ≡ b.0 = (let p = a.1 in let q = b.1 in cc) in
     asks-one x y b.0.message k (subst (λ z. is_of (request_kind x.kind) x Initiator z.message ≡ true) same a.2) b.2
 
--- one seat of a round and kind is one exchange's
+-- a seat of a round and kind belongs to one exchange
 pub seat-unique : (log : Log) (x y : Exchange) (n : ℕ) → x.kind ≡ y.kind → x.round ≡ y.round → seat log x ≡ Some n → seat log y ≡ Some n → x ≡ y
 seat-unique [] x y n k r a b = cc
 seat-unique (e ∷ log) x y n k r a b = go (option_or-cases (seat log x) _ n a) (option_or-cases (seat log y) _ n b) (seat-unique log x y n k r)

@@ -1,4 +1,4 @@
--- Where nothing is forged, what the moves give a party is genuine, and stays so.
+-- If nothing is forged, what the moves give a party is genuine, and remains so.
 use Rattle.bar_rules.specs.Peer.Log.{Log}
 use Rattle.bar_rules.specs.World.World.{World, Move, TickOf, Deliver, Hostile, party_step, takes, takes_by, delivered, happens, run, IsGenuine, AreUnforged, Setup, initial}
 use Rattle.bar_wire.specs.Inputs.{Input}
@@ -32,7 +32,7 @@ given-is p q i j c = go (eqb q p) c
 no-datagram : (bytes : List ℕ) → event.Tick ≡ event.Datagram bytes → ⊥
 no-datagram bytes e = cc
 
--- ---- what is genuine stays so
+-- ---- what is genuine remains so
 
 module _ (setup : Setup) (trusted : ℕ → Bool) (laws : StepsKeep setup) where
   takes-genuine : (w : World) (p : ℕ) (i : Input) → IsSound setup trusted w → CameUnforged setup trusted w i → (b : List ℕ) → IsGenuine setup trusted w b

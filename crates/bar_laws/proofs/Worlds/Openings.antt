@@ -26,7 +26,7 @@ use Rattle.bar_laws.proofs.Judging.{HeardBriefcase, heard-briefcase, key-row, he
 use Rattle.bar_laws.proofs.Worlds.SoundWorlds.{IsSound}
 use Rattle.bar_laws.proofs.Worlds.Evictions.{list-is, agrees-with-stream}
 
--- what a trusted party's log has admitted from a trusted party was said by it
+-- what a trusted party's log has admitted from a trusted party was said by that party
 said-by : (setup : Setup) (trusted : ℕ → Bool) (w : World) (p q : ℕ) (mine theirs : Log) (d : Datagram) → IsSound setup trusted w → trusted q ≡ true
     → slice_get w.logs p ≡ Some mine → slice_get w.logs q ≡ Some theirs → HeardIn mine d → (before : Log) × Allows (member setup p) before (Heard d)
     → is_signed d.message.body ≡ true → d.message.from ≡ q → (e : Datagram) × SaidIn theirs e × (e.message ≡ d.message)

@@ -1,4 +1,4 @@
--- What moves leave of a party is what its own steps leave over the inputs that the moves gave it.
+-- After moves, a party's state is what its own steps leave over the inputs that the moves gave it.
 use Rattle.bar_rules.specs.Broadcaster.Sending.{caster_step}
 use Rattle.bar_rules.specs.Peer.Log.{Log}
 use Rattle.bar_rules.specs.Peer.Run.{Out, step}
@@ -42,7 +42,7 @@ numbered : (setup : Setup) (number : ℕ) (sends : List (ℕ × Datagram)) → p
 numbered setup number [] = refl
 numbered setup number (s ∷ sends) = ap (λ rest. (s.0, datagram_bytes setup.session s.1) ∷ rest) (numbered setup number sends)
 
--- ---- whose a packet is
+-- ---- who sent a packet
 
 is-from : (setup : Setup) (p q : ℕ) (s : ℕ × Datagram) → IsSentBy setup q s → is_from setup.session p (s.0, datagram_bytes setup.session s.1) ≡ eqb q p
 is-from setup p q s a = ap (λ o. option_map_or (λ (d : Datagram). eqb d.message.from p) o false) a.reads ∙ ap (λ n. eqb n p) a.from
@@ -61,7 +61,7 @@ other-packets setup p q (s ∷ sends) n a =
 
 -- ---- one input
 
--- what a world has of a party
+-- the parts of a world that belong to a party
 record IsAt (setup : Setup) (p : ℕ) (w : World) (log : Log) (played : List ℕ) (sent : List (ℕ × List ℕ)) : Type 0 where
   log_is : slice_get w.logs p ≡ Some log
   played_is : slice_get w.played p ≡ Some played
@@ -110,7 +110,7 @@ inputs-on setup w p (m ∷ ms) ns =
     ap (λ l. input_at w p m ++ l) (inputs-on setup (happens setup w m) p ms ns)
     ∙ sym (append_assoc (input_at w p m) (inputs_from setup (happens setup w m) p ms) (inputs_from setup (run setup (happens setup w m) ms) p ns))
 
--- from one world to another the party goes by its own steps over these inputs
+-- between two worlds, the party takes its own steps over these inputs
 abbrev Reaches : Setup → ℕ → World → World → List Input → Type 0
 Reaches setup p w end inputs =
     (log : Log) (played : List ℕ) (sent : List (ℕ × List ℕ)) (number : ℕ) → IsAt setup p w log played sent

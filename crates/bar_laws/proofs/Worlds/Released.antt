@@ -13,7 +13,7 @@ use Rattle.bar_laws.proofs.Fitting.{IsOwnMessage, IsOfBegunRound, IsOwnBody}
 use Rattle.bar_laws.proofs.Worlds.SoundWorlds.{IsSound}
 use Rattle.bar_laws.proofs.Worlds.Evictions.{list-said}
 
--- a list that a trusted peer's table has is one of the stream's, of a round that has begun
+-- each list in a trusted peer's table is one of the stream's, of a round that has begun
 pub record IsReleased (setup : Setup) (log0 : Log) (r : ℕ) (ds : List (List ℕ)) : Type 0 where
   pub list : ds ≡ manifest_list setup.session setup.stream r
   pub low : 1 ≤ r

@@ -1,4 +1,4 @@
--- In a world where nothing is forged each delivered message of a trusted party was signed by it.
+-- In a world in which nothing is forged, each delivered message of a trusted party was signed by it.
 use Rattle.bar_rules.specs.Broadcaster.Party.{IsBroadcaster}
 use Rattle.bar_rules.specs.Broadcaster.Sending.{caster_step}
 use Rattle.bar_wire.specs.Bodies.{evidence_in}
@@ -96,7 +96,7 @@ KeptIn (Ticked ∷ log) e = KeptIn log e
 KeptIn (Heard d ∷ log) e = KeptIn log e
 KeptIn (Said d ∷ log) e = KeptIn log e
 
--- a log as its party's should be: obedient, and the broadcaster's fair
+-- the log that a party should have: obedient, and the broadcaster's fair
 abbrev pub IsProper : Setup → ℕ → Log → Type 0
 IsProper setup p log =
     (eqb p 0 ≡ false → IsObedient (member setup p) log)
@@ -137,7 +137,7 @@ kept-in (x ∷ log) q e h = go (option_or-cases (kept log q) (kept_in q x) e h) 
     go (inl a) k = more x (k a)
     go (inr a) k = new x a.1
 
--- what came is unforged
+-- what arrived is unforged
 abbrev pub CameUnforged : Setup → (ℕ → Bool) → World → Input → Type 0
 CameUnforged setup trusted w event.Tick = Unit {0}
 CameUnforged setup trusted w (event.Datagram bytes) = IsUnforged setup trusted w bytes
@@ -286,7 +286,7 @@ has-log setup trusted w p sound low = let all : length w.logs ≡ setup.session.
 
 -- ---- every list of moves
 
--- what a step of each party is, where its log is as it should be
+-- what a step of each party is, if its log is as it should be
 abbrev pub StepsKeep : Setup → Type 0
 StepsKeep setup = (p : ℕ) (log : Log) (i : Input) → p ≤ setup.session.shape.peers → IsProper setup p log → IsStep setup p log i (party_step setup p log i)
 
@@ -355,7 +355,7 @@ cast-member setup p is low high = record { session = is.session; peer = (omega (
 pub cast-caster : (setup : Setup) → IsSetup setup → IsBroadcaster (member setup 0)
 cast-caster setup is = record { session = is.session; party = refl; fits = is.fits 0 (omega arith) }
 
--- each party's step, where the session fits each party's secret
+-- each party's step, if the session fits each party's secret
 pub steps-keep : (setup : Setup) → IsSetup setup → StepsKeep setup
 steps-keep setup is zero log i low o = let f = o.1 refl in caster-keeps setup log i (cast-caster setup is) f.0 f.1
 steps-keep setup is (suc p) log i low o =

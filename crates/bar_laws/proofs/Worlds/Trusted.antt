@@ -32,7 +32,7 @@ nobody-accused setup trusted moves h (suc accuser) accused mine theirs p q =
     peer-keeps-none setup trusted (after setup moves) (suc accuser) accused mine theirs caster.0 (cast-member setup accused h.setup_is q.low (sound.peers accused theirs q.log_is)) sound h.broadcaster q.trust
     (not-zero (suc accuser) (omega arith)) (not-zero accused q.low) p.log_is q.log_is caster.1
 
--- what stands among those of a list that pass, passes
+-- if something is in the part of a list that passes, it passes
 contained-passes : (p : ℕ → Bool) (xs : List ℕ) (x : ℕ) → list_all p xs ≡ true → Contains xs x → p x ≡ true
 contained-passes p [] x all c = absurd (omega (arith, c.1))
 contained-passes p (y ∷ xs) x all c = go c.0 c.1 c.2 (and_parts _ _ all) (contained-passes p xs x)

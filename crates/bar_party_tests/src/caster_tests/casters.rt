@@ -1,7 +1,7 @@
-//! Broadcasters, and all that they give out.
+//! Broadcasters for tests, and all that they send.
 ghost use Rattle.std.specs.Prelude.{◌≡◌, ◌<◌, [], true, IfOk};
 ghost use Rattle.bar_hss.specs.Files.{IsPartyKeyOf};
-ghost use Rattle.bar_core.specs.Orders.{left_in};
+ghost use Rattle.bar_core.specs.Code.Orders.{left_in};
 
 use bar_bytes::Steps;
 use bar_caster::Caster;
@@ -22,7 +22,7 @@ pub struct Sent {
     pub bytes: Vec<u8>,
 }
 
-/// The fresh key text of the broadcaster of a session, whose secret is 32 times 7.
+/// The fresh key text of a session's broadcaster, whose secret is 32 times the byte 7.
 fn text_of(alloc: Global, session: &Session) -> Result<Vec<u8>, AllocError> {
     let rounds = session.shape().rounds;
     let params = session.params();
@@ -38,7 +38,7 @@ fn key_of(alloc: Global, session: &Session) -> Result<PartyKey, Fail>
     Ok(PartyKey::read(alloc, &text, session, true, false)?)
 }
 
-/// A broadcaster with this key and a stream of so many bytes.
+/// A broadcaster with this key and a stream of the given length.
 fn start(
     rt: &impl Abort,
     alloc: Global,
@@ -55,7 +55,7 @@ fn start(
     }
 }
 
-/// The broadcaster of a session, whose secret is 32 times 7, with a stream of so many bytes.
+/// The broadcaster of a session, whose secret is 32 times the byte 7, with a stream of the given length.
 pub fn caster_of(
     rt: &impl Abort,
     alloc: Global,
@@ -82,10 +82,10 @@ fn step(rt: &impl Abort, caster: &mut Caster<SessionScheme>, input: Input<'_>) {
     step_with::<Brand>(caster, input, Blank::new(1));
 }
 
-/// More than any input gives out.
+/// More outputs than any input causes.
 const MANY: usize = 200;
 
-/// Takes an input, and adds all that it gives out.
+/// Takes an input, and adds all datagrams that it causes.
 fn take(
     rt: &impl Abort,
     alloc: Global,
@@ -105,7 +105,7 @@ fn take(
     Ok(())
 }
 
-/// What so many ticks send.
+/// The datagrams that `count` ticks send.
 pub fn ticks(
     rt: &impl Abort,
     alloc: Global,
@@ -119,7 +119,7 @@ pub fn ticks(
     Ok(sends)
 }
 
-/// Gives a broadcaster a datagram, for which it sends nothing.
+/// Gives a broadcaster a datagram, and checks that it sends nothing.
 pub fn tell(
     rt: &impl Abort,
     alloc: Global,
@@ -132,7 +132,7 @@ pub fn tell(
     Ok(())
 }
 
-/// How many datagrams go to a peer, begin like this, and have so many bytes.
+/// How many datagrams are sent to a peer, begin with `front` and have `len` bytes.
 fn count_to(sends: &[Sent], front: &[u8], len: usize, to: u16) -> usize {
     sends
         .iter()
@@ -140,7 +140,7 @@ fn count_to(sends: &[Sent], front: &[u8], len: usize, to: u16) -> usize {
         .count()
 }
 
-/// How many of them go to peer 1, and to peer 2.
+/// How many such datagrams are sent to peer 1, and to peer 2.
 pub fn counts(sends: &[Sent], front: &[u8], len: usize) -> [usize; 2] {
     [
         count_to(sends, front, len, 1),

@@ -1,4 +1,4 @@
-//! Datagrams of the broadcaster, and prefixes of the others.
+//! Datagrams of the broadcaster, and prefixes of other datagrams, for tests of peers.
 
 use super::peers::tell;
 use bar_hss::SessionScheme;
@@ -10,7 +10,7 @@ use sha2::{Digest, Sha256};
 use std::alloc::{AllocError, Global};
 use std::process::Abort;
 
-/// What a datagram of a kind and a round begins with.
+/// The start of a datagram of a kind and a round.
 pub fn front(kind: Kind, from: u8, to: u8, round: u8) -> [u8; 20] {
     let code = kind.code();
     [
@@ -24,7 +24,7 @@ fn block(round: u8, index: u8) -> [u8; 1024] {
     block_with(2, [b'0'.wrapping_add(round), b'a'.wrapping_add(index)])
 }
 
-/// The manifest of so many updates of a round.
+/// The manifest of `count` updates of a round.
 pub fn manifest(
     alloc: Global,
     caster: &LmsScheme,
@@ -60,7 +60,7 @@ fn block_message(alloc: Global, to: u8, update: (u8, u8)) -> Result<Vec<u8>, All
     Ok(bytes)
 }
 
-/// Gives a peer the blocks of these updates, which it answers by nothing.
+/// Gives a peer the blocks of these updates, and checks that it sends nothing.
 pub fn tell_blocks(
     rt: &impl Abort,
     alloc: Global,

@@ -1,4 +1,4 @@
-//! Two peers, what is said between them, and what both are told.
+//! Two peers for tests, the datagrams between them, and those that both are given.
 use super::datagrams::{front, manifest};
 use super::peers::{Sent, answers, peer_of, sent_at_tick, tell, ticks};
 use bar_hss::SessionScheme;
@@ -12,7 +12,7 @@ use std::alloc::{AllocError, Global};
 use std::process::Abort;
 use std::test::Fail;
 
-/// The peers 1 and 2 of a session, and what signs for its broadcaster.
+/// The peers 1 and 2 of a session, and the signature scheme of its broadcaster.
 #[derive(Drop)]
 pub struct Pair {
     pub caster: LmsScheme,
@@ -28,14 +28,14 @@ pub fn pair_of(alloc: Global, session: &str) -> Result<Pair, Fail> {
     })
 }
 
-/// Both peers take so many ticks, and nothing is delivered.
+/// Both peers take `count` ticks, and nothing is delivered.
 pub fn pass(rt: &impl Abort, alloc: Global, pair: &mut Pair, count: u8) -> Result<(), AllocError> {
     ticks(rt, alloc, &mut pair.one, count)?;
     ticks(rt, alloc, &mut pair.two, count)?;
     Ok(())
 }
 
-/// Tells both peers of so many updates of a round.
+/// Gives both peers the manifest of `count` updates of a round.
 pub fn tell_round(
     rt: &impl Abort,
     alloc: Global,
@@ -48,10 +48,11 @@ pub fn tell_round(
     tell(rt, alloc, &mut pair.two, &bytes)
 }
 
-/// A party is given a datagram, by its place among those that were sent, and sends these, each with its kind and length, which are added.
+/// A step of an exchange: a party is given a datagram, by its index among those sent so far. It sends datagrams of these kinds and lengths,
+/// which are added to those sent.
 pub type Row = (u16, usize, &'static [(Kind, usize)]);
 
-/// Whether these are sent, to this party.
+/// Whether datagrams of these kinds and lengths are sent to this party, and no others.
 fn are_sent(sends: &[Sent], to: u16, kinds: &[(Kind, usize)]) -> bool {
     let mut all = sends.len() == kinds.len();
     for (sent, (kind, len)) in sends.iter().zip(kinds) {
@@ -70,7 +71,7 @@ fn add_all(all: &mut Vec<Vec<u8>>, sends: Vec<Sent>) -> Result<(), AllocError> {
     Ok(())
 }
 
-/// What a peer of the pair sends for a datagram.
+/// What a peer of the pair sends in answer to a datagram.
 fn answers_of(
     rt: &impl Abort,
     alloc: Global,
@@ -85,7 +86,7 @@ fn answers_of(
     }
 }
 
-/// What was sent in an exchange, in order, from its first datagram on.
+/// Delivers the datagrams of an exchange by rows, and returns all that were sent, in order, from the first on.
 pub fn give_in_turn(
     rt: &impl Abort,
     alloc: Global,
@@ -109,7 +110,7 @@ pub fn give_in_turn(
     Ok(all)
 }
 
-/// The exchange that peer 2 begins at the next tick.
+/// The datagrams of the exchange that peer 2 begins at the next tick.
 pub fn trade(
     rt: &impl Abort,
     alloc: Global,
@@ -123,7 +124,7 @@ pub fn trade(
     give_in_turn(rt, alloc, pair, request, rows)
 }
 
-/// The bytes of a window of four rounds by the lowest byte of each word.
+/// The bytes of a window of four rounds, each word given by its lowest byte.
 fn window(rows: [u8; 4]) -> [u8; 32] {
     let mut bytes = [0; 32];
     bytes[7] = rows[0];
@@ -133,13 +134,13 @@ fn window(rows: [u8; 4]) -> [u8; 32] {
     bytes
 }
 
-/// Bytes of a datagram of an exchange, by the datagram's place.
+/// Some bytes of a datagram of an exchange, by the datagram's index.
 pub fn part(all: &[Vec<u8>], place: usize, from: usize, len: usize) -> Option<&[u8]> {
     let datagram = all.get(place)?;
     datagram.get(from..)?.get(..len)
 }
 
-/// Checks the rows of a window, by its place in a datagram.
+/// Checks the rows of a window at an offset of a datagram.
 pub fn check_window(rt: &impl Abort, all: &[Vec<u8>], place: usize, from: usize, rows: [u8; 4]) {
     let expected = window(rows);
     assert_eq!(rt;
@@ -149,7 +150,7 @@ pub fn check_window(rt: &impl Abort, all: &[Vec<u8>], place: usize, from: usize,
     );
 }
 
-/// Checks that each side promised, received and opened so many updates in an exchange.
+/// Checks that each side promised, received and opened `count` updates in an exchange.
 pub fn check_totals(rt: &impl Abort, pair: &Pair, x: Exchange, count: u8) {
     let totals = Totals {
         promised: count,

@@ -1,8 +1,8 @@
-//! Peers, and all that they give out.
+//! Peers for tests, and all that they send and play.
 ghost use Rattle.std.specs.Prelude.{◌≡◌, ◌<◌, [], false, IfOk};
 ghost use Rattle.bar_hss.specs.Files.{IsPartyKeyOf};
-ghost use Rattle.bar_core.specs.Orders.{left_in};
-ghost use Rattle.bar_peer.specs.StandsFor.{contents_left};
+ghost use Rattle.bar_core.specs.Code.Orders.{left_in};
+ghost use Rattle.bar_peer.specs.Code.StandsFor.{contents_left};
 
 use bar_bytes::Steps;
 use bar_hss::{PartyKey, SessionScheme};
@@ -23,14 +23,14 @@ pub struct Sent {
     pub bytes: Vec<u8>,
 }
 
-/// What a peer gave out.
+/// What a peer played and sent.
 #[derive(Drop)]
 pub struct Given {
     pub played: Vec<u8>,
     pub sends: Vec<Sent>,
 }
 
-/// The fresh key text of a peer of a session, whose secret is 32 times one byte.
+/// The fresh key text of a session's peer, whose secret is 32 times one byte.
 fn text_of(
     alloc: Global,
     session: &Session,
@@ -79,7 +79,7 @@ fn step(rt: &impl Abort, peer: &mut Peer<SessionScheme>, input: Input<'_>) {
     step_with::<Brand>(peer, input, Blank::new(1));
 }
 
-/// More than any input gives out.
+/// More outputs than any input causes.
 const MANY: usize = 200;
 
 fn add_played(peer: &mut Peer<SessionScheme>, played: &mut Vec<u8>) -> Result<(), AllocError> {
@@ -108,7 +108,7 @@ fn add_sends(
     Ok(())
 }
 
-/// Takes so many inputs, and adds all that they give out.
+/// Takes an input `count` times, and collects all that is played and sent.
 fn take(
     rt: &impl Abort,
     alloc: Global,
@@ -128,7 +128,7 @@ fn take(
     Ok(given)
 }
 
-/// What so many ticks give out, where nothing is delivered.
+/// What a peer plays and sends in `count` ticks, if nothing is delivered.
 pub fn ticks(
     rt: &impl Abort,
     alloc: Global,
@@ -138,7 +138,7 @@ pub fn ticks(
     take(rt, alloc, peer, Input::Tick, count)
 }
 
-/// What is sent for a datagram, which plays nothing.
+/// What a peer sends in answer to a datagram. Checks that it plays nothing.
 pub fn answers(
     rt: &impl Abort,
     alloc: Global,
@@ -150,7 +150,7 @@ pub fn answers(
     Ok(given.sends)
 }
 
-/// Gives a peer a datagram, which it answers by nothing.
+/// Gives a peer a datagram, and checks that it sends nothing.
 pub fn tell(
     rt: &impl Abort,
     alloc: Global,
@@ -161,7 +161,7 @@ pub fn tell(
     Ok(())
 }
 
-/// Takes so many ticks, in which these contents are played.
+/// Takes `count` ticks, and checks that these contents are played.
 pub fn check_played(
     rt: &impl Abort,
     alloc: Global,
@@ -174,7 +174,7 @@ pub fn check_played(
     Ok(())
 }
 
-/// Takes a tick, and answers the first datagram it sends that begins like this.
+/// Takes a tick, and returns the first datagram sent that begins with `front`.
 pub fn sent_at_tick(
     rt: &impl Abort,
     alloc: Global,

@@ -1,4 +1,4 @@
--- What was admitted under the name of a datagram.
+-- Which datagram was admitted under the name of another one.
 use Rattle.std.proofs.Common.{◌≡◌, ℕ, ◌∙◌, Bool, true, false, List, Option, Some, None, sym, ap, refl, subst, Bor}
 use Rattle.std.specs.Prelude.{option_map, is_some, IfSome, if◌then◌else◌}
 use Rattle.std.proofs.lemmas.Slice.Eq.{bytes_eq-Decides}
@@ -6,24 +6,24 @@ use Rattle.std.specs.Bool.{then_some}
 use Rattle.std.specs.Str.{bytes_eq}
 use Rattle.bar_wire.specs.Datagram.{Message, Datagram, Body, Place, place_of, kind_of}
 use Rattle.bar_wire.specs.Grammar.{IsDatagram, SpellsDatagram}
-use Rattle.bar_wire.specs.Views.{plain}
+use Rattle.bar_wire.specs.Code.Views.{plain}
 use Rattle.bar_wire.specs.declared.shape.Shape.{Shape}
 use Rattle.bar_wire.specs.declared.view.Body.{Body as RawBody}
 use Rattle.bar_wire.specs.declared.view.Body.TheVariants as raw
 use Rattle.bar_ledger.specs.declared.ledger.Ledger.{Ledger}
-use Rattle.bar_ledger.specs.Lookups.{heard_in}
-use Rattle.bar_ledger.specs.Recalls.{Recalls}
+use Rattle.bar_ledger.specs.Code.Lookups.{heard_in}
+use Rattle.bar_ledger.specs.Code.Recalls.{Recalls}
 use Rattle.bar_rules.specs.Member.{Session, Member}
 use Rattle.bar_rules.specs.Values.{datagram_bytes}
 use Rattle.bar_rules.specs.Peer.Admission.{is_named_again}
 use Rattle.bar_rules.specs.Peer.Agreement.{IsRecent}
 use Rattle.bar_rules.specs.Peer.Knowledge.{Knowledge}
 use Rattle.bar_rules.specs.Peer.Replies.{heard_like, if_same, repeated}
-use Rattle.bar_balanced.specs.Balanced.{AreSpelled}
-use Rattle.bar_peer.specs.Repeats.{IsInTime}
+use Rattle.bar_balanced.specs.Code.Balanced.{AreSpelled}
+use Rattle.bar_peer.specs.Code.Repeats.{IsInTime}
 use Rattle.bar_bytes.proofs.Options.{some-mapped}
 
--- a ledger tells what was admitted at a place, while the exchange may be asked about
+-- while an exchange may be asked about, the ledger holds the datagram that was admitted at a place of it
 pub like_in : (me : Member) (k : Knowledge) (l : Ledger) (m : Message) (p : Place) → Recalls me k l → place_of m ≡ Some p → IsInTime me k m
     → option_map (datagram_bytes me.session) (heard_like k m.body (place_of m)) ≡ heard_in l (kind_of m.body) p.exchange p.role
 like_in me k l m p h is in_time =
@@ -31,12 +31,12 @@ like_in me k l m p h is in_time =
     ∙ h.heard (kind_of m.body) p.exchange p.role
     (subst (λ (o : Option Place). IfSome (option_map (λ p. p.exchange) o) (λ x. IsRecent me k x.round)) is in_time)
 
--- nothing was, where it is of no exchange
+-- a datagram of no exchange has no namesake
 pub like_none : (s : Session) (k : Knowledge) (m : Message) → place_of m ≡ None
     → option_map (datagram_bytes s) (heard_like k m.body (place_of m)) ≡ None
 like_none s k m is = λ i. option_map (datagram_bytes s) (heard_like k m.body (is i))
 
--- a name of an exchange is that of what was admitted at its place
+-- except for a MANIFEST or an EVICT, a datagram has an admitted namesake if and only if one was admitted at its place
 pub named_like : (s : Session) (k : Knowledge) (from to : ℕ) (b : RawBody)
     → ((round count : ℕ) (digests : Bor (List ℕ)) → b ≡ raw.Manifest round count digests → ⊥)
     → ((round count : ℕ) (parties : Bor (List ℕ)) → b ≡ raw.Evict round count parties → ⊥)
@@ -57,7 +57,7 @@ named_like s k from to (raw.Key round xkind role key) other neither = some-mappe
 
 -- ---- repeats
 
--- bytes spell at most one datagram
+-- no bytes encode two datagrams
 abbrev pub SpellOne : Type 0
 SpellOne = (s : Shape) (d e : Datagram) (bytes : List ℕ) → SpellsDatagram s d bytes → SpellsDatagram s e bytes → d ≡ e
 
@@ -81,7 +81,7 @@ pub spelled_like : (me : Member) (k : Knowledge) (b : Body) (o : Option Place) (
 spelled_like me k b None e h is = absurd (cc)
 spelled_like me k b (Some p) e h is = h.spelled (kind_of b) p.exchange p.role e is
 
--- what was admitted is repeated where its bytes are the same
+-- a datagram is a repeat if its bytes are those of the admitted one
 pub repeats : (me : Member) (k : Knowledge) (d : Datagram) (heard bytes : List ℕ) (same : Bool) → SpellOne → AreSpelled me k
     → SpellsDatagram me.session.shape d bytes → k.is_announced d.message.from ≡ false
     → option_map (datagram_bytes me.session) (heard_like k d.message.body (place_of d.message)) ≡ Some heard → same ≡ bytes_eq heard bytes

@@ -1,12 +1,12 @@
--- The rows of datagrams of exchanges, and what a met row tells.
+-- The rows of datagrams of exchanges, and what follows if they are met.
 use Rattle.std.proofs.Common.{◌≡◌, ◌≤◌, ◌<◌, ◌+◌, ℕ, ◌∙◌, Bool, true, false, ◌&&◌, not, is_some, List, Option, sym, ap, refl, arith}
 use Rattle.std.specs.Borrow.{Bor}
 use Rattle.std.proofs.lemmas.Bool.Decides.{nat_tests}
 use Rattle.std.proofs.lemmas.Bool.{ltb-true}
 use Rattle.bar_window.specs.declared.update.UpdateId.{UpdateId}
 use Rattle.bar_terms.specs.Table.{digest_of}
-use Rattle.bar_store.specs.Held.{block_in}
-use Rattle.bar_store.specs.Holds.{Holds}
+use Rattle.bar_store.specs.Code.Held.{block_in}
+use Rattle.bar_store.specs.Code.Holds.{Holds}
 use Rattle.bar_store.specs.declared.store.Store.{Store}
 use Rattle.bar_store.proofs.Learns.{and_false}
 use Rattle.bar_window.specs.declared.exchange.Role.{Role}
@@ -14,10 +14,10 @@ use Rattle.bar_window.specs.declared.exchange.Role.TheVariants.{Initiator, Respo
 use Rattle.bar_window.specs.declared.exchange.XKind.{XKind}
 use Rattle.bar_window.specs.declared.exchange.XKind.TheVariants.{Balanced, Push}
 use Rattle.bar_wire.specs.Datagram.{Body, Manifest, Block, Request, Response, Divulge, Query, Reply, Case, KeyReq, Key, Evidence, Evict, exchange_by, part_of, place_by}
-use Rattle.bar_wire.specs.Sides.{place_in}
+use Rattle.bar_wire.specs.Code.Sides.{place_in}
 use Rattle.bar_wire.specs.declared.kind.Kind.{Kind}
 use Rattle.bar_wire.specs.declared.kind.Kind.TheVariants as kinds
-use Rattle.bar_wire.specs.Views.{plain}
+use Rattle.bar_wire.specs.Code.Views.{plain}
 use Rattle.bar_wire.specs.declared.place.Place.{Place}
 use Rattle.bar_wire.specs.declared.view.View.{View}
 use Rattle.bar_wire.specs.declared.view.Body.{Body as RawBody}
@@ -27,16 +27,16 @@ use Rattle.bar_rules.specs.Peer.Admission.{has_digest, is_row_met, may_ask}
 use Rattle.bar_rules.specs.Peer.Agreement.{IsRecent}
 use Rattle.bar_rules.specs.Peer.Exchanges.{request_kind}
 use Rattle.bar_rules.specs.Peer.Knowledge.{Knowledge, is_in_time, deadline, holds, table_of, this_round}
-use Rattle.bar_exchange.specs.Placing.{StandsAt}
-use Rattle.bar_peer.specs.Repeats.{IsInTime, is_of_exchange}
+use Rattle.bar_exchange.specs.Code.Placing.{StandsAt}
+use Rattle.bar_peer.specs.Code.Repeats.{IsInTime, is_of_exchange}
 use Rattle.bar_bytes.proofs.Options.{some-mapped}
 use Rattle.bar_bytes.proofs.Tests.{and-second}
 
--- a body is of an exchange exactly where it has a place
+-- a body is of an exchange if and only if it has a place
 pub of_exchange : (v : View) (place : Option Place) → StandsAt v place → is_of_exchange (plain v.body) ≡ is_some place
 of_exchange v place at = sym (some-mapped (place_by v.from v.to) (part_of (plain v.body))) ∙ ap is_some (sym at) ∙ some-mapped place_in place
 
--- what is neither told to all nor a block is of an exchange, or no row admits it
+-- if a body is neither sent to all nor a BLOCK, it is of an exchange, or no row admits it
 pub of_others : (me : Member) (k : Knowledge) (from to : ℕ) (b : RawBody)
     → ((round count : ℕ) (digests : Bor (List ℕ)) → b ≡ raw.Manifest round count digests → ⊥)
     → ((round index : ℕ) (block : Bor (List ℕ)) → b ≡ raw.Block round index block → ⊥)
@@ -55,7 +55,7 @@ of_others me k from to (raw.KeyReq r kind role) m b e = refl
 of_others me k from to (raw.Key r kind role key) m b e = refl
 of_others me k from to (raw.Evidence n ds) m b e = refl
 
--- ---- what a met row tells of time
+-- ---- a met row bounds the round
 
 in_round : (me : Member) (k : Knowledge) (round : ℕ) (kind : XKind) (role : Role) (from to : ℕ) → IsRecent me k round
     → IsRecent me k (exchange_by round kind role from to).round
@@ -70,7 +70,7 @@ pub may_ask_in_time : (me : Member) (k : Knowledge) (kind : XKind) (from round :
     → may_ask me k kind from round seed ≡ true → is_in_time me.session k (request_kind kind) round ≡ true
 may_ask_in_time me k kind from round seed h = and-second _ _ (and-second _ _ h)
 
--- each row of an exchange bounds the round
+-- if a row of an exchange is met, the exchange may still be asked about
 pub in_time : (me : Member) (k : Knowledge) (from to : ℕ) (b : Body) → 2 ≤ me.session.shape.life → is_row_met me k from to b ≡ true
     → IsInTime me k (record { from = from; to = to; body = b })
 in_time me k from to (Manifest r ds) life h = tt
@@ -90,9 +90,9 @@ in_time me k from to (Key g) life h =
 in_time me k from to (Evidence ds) life h = tt
 in_time me k from to (Evict r ps) life h = tt
 
--- ---- what is held
+-- ---- held blocks
 
--- a block that is held isn't admitted
+-- the BLOCK of a held update isn't admitted
 pub held_refused : (me : Member) (k : Knowledge) (s : Store) (from to : ℕ) (u : UpdateId) (block : List ℕ) → Holds me k s
     → is_some (block_in s u) ≡ true → false ≡ is_row_met me k from to (Block u block)
 held_refused me k s from to u block h held = go (is_alive me.session u.round (this_round k)) refl

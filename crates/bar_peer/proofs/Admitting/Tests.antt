@@ -1,4 +1,4 @@
--- What admits a datagram, what refuses it, and at which evidence is looked for.
+-- When a datagram is admitted, when it is refused, and when it is searched for evidence.
 use Rattle.std.proofs.Common.{◌≡◌, ◌∙◌, ◌+◌, ◌==◌, is_some, nat_le, ℕ, Bool, true, false, Some, None, ◌&&◌, not, sym, ap, refl}
 use Rattle.std.specs.Prelude.{if◌then◌else◌}
 use Rattle.std.proofs.lemmas.Bool.{and_parts, false≢true}
@@ -15,10 +15,10 @@ use Rattle.bar_rules.specs.Values.{is_signed_by}
 use Rattle.bar_rules.specs.Peer.Admission.{is_admitted, is_for, is_heard_again, is_row_met, has_valid_signature}
 use Rattle.bar_rules.specs.Peer.Evidence.{is_tried}
 use Rattle.bar_rules.specs.Peer.Knowledge.{Knowledge, this_round}
-use Rattle.bar_peer.specs.Trying.{may_admit, may_show}
+use Rattle.bar_peer.specs.Code.Trying.{may_admit, may_show}
 use Rattle.bar_store.proofs.Learns.{and_true, and_false}
 
--- ---- what may admit it, but for its signature
+-- ---- admission without the signature
 
 abbrev is_named : Knowledge → Datagram → Bool
 is_named k d = k.is_announced d.message.from
@@ -42,7 +42,7 @@ refused_by_row me k d is =
     and_false (is_for me d.message && not (is_named k d) && not (is_again k d))
     ∙ (λ i. is_for me d.message && not (is_named k d) && not (is_again k d) && sym is i)
 
--- What was admitted under its name is told where the row is met. It refuses it, or the row decides.
+-- If the row is met, the test for a namesake is exact. So a namesake refuses the datagram, or the row decides.
 pub refused_again : (me : Member) (k : Knowledge) (d : Datagram) (again : Bool) → again ≡ true → (is_met me k d ≡ true → again ≡ is_again k d)
     → false ≡ may_admit me k d
 refused_again me k d again is told = go (is_met me k d) refl
@@ -64,7 +64,7 @@ admitted_by_row me k d again ours free is told = go (is_met me k d) refl
     go false e = e ∙ refused_by_row me k d e
     go true e = (λ i. sym ours i && not (sym free i) && not ((sym is ∙ told e) i) && is_met me k d)
 
--- a datagram of a kind that peers sign is of an exchange, of its round
+-- a datagram of a kind that peers sign is of an exchange, and of the round of this
 pub peer_placed : (m : Message) → is_peer_kind m.body ≡ true → place_of m ≡ None → ⊥
 peer_placed m e none = go m.body e none
   where
@@ -104,7 +104,7 @@ peer_round m p e at = go m.body e at
     go (Evidence ds) e at = absurd (false≢true e)
     go (Evict r ps) e at = absurd (false≢true e)
 
--- its round decides, where all else is met
+-- if all other conditions hold, the round decides
 pub shown_if_recent : (me : Member) (k : Knowledge) (d : Datagram) → is_peer_kind d.message.body ≡ true → (d.message.to == me.party) ≡ true
     → is_named k d ≡ false → is_some (k.evidence d.message.from) ≡ false
     → nat_le (this_round k) (round_of d.message.body + me.session.shape.life) ≡ may_show me k d
@@ -112,7 +112,7 @@ shown_if_recent me k d peer mine free none =
     λ i. sym peer i && sym mine i && not (sym free i) && not (sym none i)
     && nat_le (this_round k) (round_of d.message.body + me.session.shape.life)
 
--- ---- with its signature
+-- ---- admission with the signature
 
 signature_last : (a b v c m : Bool) → (a && b && v && c && m) ≡ (a && b && c && m && v)
 signature_last a b true c m = (λ i. sym (and_true (a && b)) i && c && m) ∙ and_true (a && b && c && m)
@@ -130,11 +130,11 @@ tried_by_signature me k d =
     (not (is_some (k.evidence d.message.from)))
     (nat_le (this_round k) (round_of d.message.body + me.session.shape.life))
 
--- a kind that peers sign is a signed one
+-- a kind that peers sign is signed
 pub valid_of_peer : (s : Session) (d : Datagram) → is_peer_kind d.message.body ≡ true → has_valid_signature s d ≡ is_signed_by s d
 valid_of_peer s d e = ap (λ b. if b then is_signed_by s d else true) (peer_kind_signed d.message.body e)
 
--- ---- where one of them is missing
+-- ---- if a condition fails
 
 pub unadmitted : (me : Member) (k : Knowledge) (d : Datagram) → may_admit me k d ≡ false → false ≡ is_admitted me k d
 unadmitted me k d is = sym (admitted_by_signature me k d ∙ (λ i. is i && has_valid_signature me.session d))
@@ -142,16 +142,16 @@ unadmitted me k d is = sym (admitted_by_signature me k d ∙ (λ i. is i && has_
 pub untried : (me : Member) (k : Knowledge) (d : Datagram) → may_show me k d ≡ false → false ≡ is_tried me k d
 untried me k d is = sym (tried_by_signature me k d ∙ (λ i. is i && is_signed_by me.session d))
 
--- what may show evidence is of a kind that peers sign, and of an exchange that may still be asked about
+-- a datagram that may show evidence is of a kind that peers sign, and its exchange may still be asked about
 pub shows_peer_kind : (me : Member) (k : Knowledge) (d : Datagram) → may_show me k d ≡ true → is_peer_kind d.message.body ≡ true
 shows_peer_kind me k d e = (and_parts _ _ (and_parts _ _ (and_parts _ _ (and_parts _ _ e).0).0).0).0
 
 pub shows_signed : (me : Member) (k : Knowledge) (d : Datagram) → may_show me k d ≡ true → has_valid_signature me.session d ≡ is_signed_by me.session d
 shows_signed me k d e = valid_of_peer me.session d (shows_peer_kind me k d e)
 
--- ---- what was weighed
+-- ---- weighing
 
--- whether it is admitted and tried is told, by what may be and by whether the signature is accepted
+-- whether a datagram is admitted and tried follows from the tests without the signature and from whether the signature is accepted
 pub weighed_admitted : (me : Member) (k : Knowledge) (d : Datagram) (may valid : Bool) → may ≡ may_admit me k d
     → (may ≡ true → valid ≡ has_valid_signature me.session d) → (may && valid) ≡ is_admitted me k d
 weighed_admitted me k d true valid is told = (λ i. is i && told refl i) ∙ sym (admitted_by_signature me k d)

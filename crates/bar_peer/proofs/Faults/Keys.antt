@@ -1,4 +1,4 @@
--- A KEY that comes again shows nothing of the CASE that it opens, since evidence is kept where it showed some.
+-- A repeated KEY shows no fault with the CASE that it opens: if it had shown one, evidence would be kept already.
 use Rattle.std.proofs.Common.{◌≡◌, ◌∙◌, ◌==◌, ◌&&◌, not, ℕ, Bool, true, false, List, [], ◌∷◌, Option, Some, None, is_some, refl, sym, ap, subst}
 use Rattle.std.specs.Prelude.{option_map, option_and_then, if◌then◌else◌}
 use Rattle.std.specs.Bool.{then_some}
@@ -15,12 +15,12 @@ use Rattle.bar_case.specs.Opened.{is_bad}
 use Rattle.bar_wire.specs.Bodies.{briefcase_in, is_peer_kind}
 use Rattle.bar_wire.specs.Datagram.{Message, Datagram, Case, Key, Briefcase, KeyGiven, Place, exchange_by, kind_of, part_of, place_by, place_of, identity_of, is_of}
 use Rattle.bar_wire.specs.Kinds.{is_signed_kind}
-use Rattle.bar_wire.specs.Sides.{place_in}
-use Rattle.bar_wire.specs.Views.{plain}
+use Rattle.bar_wire.specs.Code.Sides.{place_in}
+use Rattle.bar_wire.specs.Code.Views.{plain}
 use Rattle.bar_wire.specs.declared.kind.Kind.TheVariants as kinds
 use Rattle.bar_wire.specs.declared.place.Place.{Place as CodePlace}
-use Rattle.bar_ledger.specs.Lookups.{heard_in}
-use Rattle.bar_ledger.specs.Naming.{names}
+use Rattle.bar_ledger.specs.Code.Lookups.{heard_in}
+use Rattle.bar_ledger.specs.Code.Naming.{names}
 use Rattle.bar_rules.specs.Judge.Verdict.{Fault, bad_opening, fault_of_messages, fault_of_two, same_place}
 use Rattle.bar_rules.specs.Member.{Session, Member}
 use Rattle.bar_rules.specs.Values.{datagram_bytes, datagram_of, leaf_named, opening_of}
@@ -35,13 +35,13 @@ use Rattle.bar_laws.specs.Evidence.{CatchesBadKeys}
 use Rattle.bar_laws.proofs.Logs.{IsCaseOf, IsForOneMember, IsKeyOf, WasHeard, allowed-at, contains-entry, first_heard-was, heard-own, is_of-case, is_of-key, receiver-partner, receiver-role}
 use Rattle.bar_store.proofs.Learns.{and_false}
 use Rattle.bar_peer.specs.declared.search.Search.{Search}
-use Rattle.bar_peer.specs.Arrivals.{IsReadBy}
-use Rattle.bar_peer.specs.Searching.{GoesBy, KeysAreCaught, searched, searcher}
+use Rattle.bar_peer.specs.Code.Arrivals.{IsReadBy}
+use Rattle.bar_peer.specs.Code.Searching.{GoesBy, KeysAreCaught, searched, searcher}
 use Rattle.bar_peer.proofs.Faults.OtherExchanges.{leaf_is}
 use Rattle.bar_peer.proofs.Faults.Search.{stands_at}
 use Rattle.bar_peer.proofs.Faults.Trials.{IsSpelled, IsTried, VerdictsAreFound, earlier_of, good_by, pair_shown, read_back, tried_parts}
 
--- ---- what is caught of a log is caught by what is known
+-- ---- from bad keys that a log catches to those that its knowledge catches
 
 pub caught : (me : Member) (log : Log) → IsObedient me log → CatchesBadKeys me log → KeysAreCaught me (known me log)
 caught me log obeys law x role d e g c key body case words bad =
@@ -72,7 +72,7 @@ caught me log obeys law x role d e g c key body case words bad =
       bad = subst (λ y. is_bad (opening_of me.session (table_of (known me log)) y c g.key) ≡ true) (sym named) bad;
     }))
 
--- ---- what a CASE and a KEY show
+-- ---- the faults of a CASE and a KEY
 
 abbrev a_case : ℕ → ℕ → Briefcase → Message
 a_case from to c = record { from = from; to = to; body = Case c }
@@ -84,7 +84,7 @@ by_place : (b : Bool) → ◌≡◌ {A = Option Fault} (if b then None else None
 by_place true = refl
 by_place false = refl
 
--- they show no fault but a bad opening
+-- a CASE and a KEY show no fault except a bad opening
 none_of_two : (s : Session) (t : Table) (f o p q : ℕ) (c : Briefcase) (g : KeyGiven)
     → bad_opening s t (a_case f o c) (a_key p q g) (Some c) (Some g) ≡ false → fault_of_messages s t (a_case f o c) (a_key p q g) ≡ None
 none_of_two s t f o p q c g none = rw none (by_place (same_place (a_key p q g) (a_case f o c)))
@@ -106,7 +106,7 @@ none_shown s t e d c g case key none leaves =
     in
     rw (apart, messages) refl
 
--- ---- a KEY that comes again
+-- ---- a repeated KEY
 
 module _ (k : Knowledge) (s : Search) (goes : GoesBy k s) (reads : IsReadBy s.who.now s.arrival.now) (signed : is_peer_kind (plain s.arrival.now.view.body) ≡ true) where
   abbrev me : Member
@@ -121,7 +121,7 @@ module _ (k : Knowledge) (s : Search) (goes : GoesBy k s) (reads : IsReadBy s.wh
   tried : IsTried me k d
   tried = tried_parts me k d goes.tried
 
-  -- what was heard with its bytes is the datagram itself
+  -- a heard KEY with the same bytes is the datagram itself
   heard_is : (place : CodePlace) (key : List ℕ) → IsSpelled → s.arrival.now.place ≡ Some place
       → heard_in s.ledger.now kinds.Key place.x place.role ≡ Some key → bytes_eq key s.arrival.now.bytes.now ≡ true
       → k.heard kinds.Key place.x place.role ≡ Some d
@@ -144,7 +144,7 @@ module _ (k : Knowledge) (s : Search) (goes : GoesBy k s) (reads : IsReadBy s.wh
           in
           there ∙ ap Some one
 
-  -- evidence would be kept, and it wouldn't be tried
+  -- if it opened the CASE badly, evidence would be kept, and the datagram wouldn't be searched
   opens_well : (x : Exchange) (role : Role) (e : Datagram) (c : Briefcase) (g : KeyGiven) → k.heard kinds.Key x role ≡ Some d
       → d.message.body ≡ Key g → k.heard kinds.Case x role ≡ Some e → e.message.body ≡ Case c
       → exchange_by c.round c.kind c.role e.message.from e.message.to ≡ x
@@ -158,7 +158,7 @@ module _ (k : Knowledge) (s : Search) (goes : GoesBy k s) (reads : IsReadBy s.wh
           let none : not (is_some (k.evidence d.message.from)) ≡ true = (and_parts _ _ (and_parts _ _ goes.tried).0).1 in
           absurd (both_ways _ (not-true _ none) (goes.caught x role d e g c key body case words bad))
 
-  -- so it shows nothing of the CASE
+  -- so it shows no fault with the CASE
   pub none_again : (place : CodePlace) (key case : List ℕ) (named : List ℕ → ℕ) (len leaf : ℕ) → IsSpelled → VerdictsAreFound
       → s.arrival.now.place ≡ Some place → heard_in s.ledger.now kinds.Key place.x place.role ≡ Some key
       → bytes_eq key s.arrival.now.bytes.now ≡ true → heard_in s.ledger.now kinds.Case place.x place.role ≡ Some case

@@ -1,4 +1,4 @@
--- What a datagram is tried with of other exchanges: what the ledger recalls of them, by the leaves of its signatures.
+-- The datagrams of other exchanges that a datagram is tried with: those that the ledger recalls with the same leaf.
 use Rattle.std.proofs.Common.{◌≡◌, ◌∙◌, ◌+◌, ◌-◌, ◌≤◌, ◌==◌, ◌&&◌, ℕ, Bool, true, false, cond, List, [], ◌∷◌, ◌++◌, length, Option, Some, None, refl, sym, ap, arith, length-append}
 use Rattle.std.specs.Prelude.{option_map, option_and_then, nat_le, if◌then◌else◌}
 use Rattle.std.specs.Bool.{then_some}
@@ -31,12 +31,12 @@ use Rattle.bar_rules.proofs.Shared.{IsShared, shared_are}
 use Rattle.bar_laws.specs.Soundness.{IsSound}
 use Rattle.bar_laws.specs.Tries.{by_leaf, leaves_in, leaves_among, OthersAreTriedByLeaves}
 use Rattle.bar_ledger.specs.declared.ledger.Ledger.{Ledger}
-use Rattle.bar_ledger.specs.Naming.{names}
-use Rattle.bar_ledger.specs.Recalls.{Recalls}
-use Rattle.bar_exchange.specs.Naming.{if_passing, passing_as, passing_in, passing_beside, passing_among, side_beside}
+use Rattle.bar_ledger.specs.Code.Naming.{names}
+use Rattle.bar_ledger.specs.Code.Recalls.{Recalls}
+use Rattle.bar_exchange.specs.Code.Naming.{if_passing, passing_as, passing_in, passing_beside, passing_among, side_beside}
 use Rattle.bar_peer.proofs.Hearing.Exchanges.{is_here}
 
--- a datagram behind an earlier one
+-- a datagram after an earlier one
 abbrev behind : List ℕ → List ℕ → List (List ℕ)
 behind bytes heard = heard ∷ bytes ∷ []
 
@@ -77,7 +77,7 @@ opening_signed Balanced Responder = refl
 opening_signed Push Initiator = refl
 opening_signed Push Responder = refl
 
--- what is tried of a datagram, and how its leaf is named
+-- the datagram that is tried, and how its leaf is named
 pub record IsTriedElsewhere (me : Member) (k : Knowledge) (l : Ledger) (d : Datagram) (bytes : List ℕ) (named : List ℕ → ℕ) (len leaf : ℕ) : Type 0 where
   pub recalls : Recalls me k l
   pub sound : IsSound me k
@@ -142,7 +142,7 @@ module _ (me : Member) (k : Knowledge) (l : Ledger) (d : Datagram) (bytes : List
       here true = refl
       here false = ap (λ role. option_map (behind bytes) (passing_in test l y role)) (side_is y) ∙ by_side y (other_role (role_of me y)) recent
 
-  -- all that the sender shares with this peer
+  -- all exchanges that the sender shares with this peer
   pub elsewhere_is : (p : Place) → OthersAreTriedByLeaves → is_tried me k d ≡ true → IsDatagram me.session.shape d → place_of d.message ≡ Some p
       → option_map (behind bytes)
       (passing_among test l p.exchange (shared_from l.me d.message.from (l.round - l.shape.life) (l.shape.life + 2)))
@@ -157,7 +157,7 @@ module _ (me : Member) (k : Knowledge) (l : Ledger) (d : Datagram) (bytes : List
       (shared_are me.party d.message.from low low (me.session.shape.life + 2) (omega arith))
       ∙ sym (law me k d p h.sound tried fits at)
 
--- ---- rounds are few
+-- ---- rounds are bounded
 
 round_high : (s : Shape) (b : Body) → InRange s b → is_peer_kind b ≡ true → round_of b ≤ s.rounds
 round_high s (Request r seed c) range peer = range.1
@@ -168,7 +168,7 @@ round_high s (Case c) range peer = range.0.1
 round_high s (Key k) range peer = range.1
 round_high s _ range peer = absurd (cc)
 
--- nothing is tried past the last round by more than an update lives
+-- a datagram is searched only up to the last round plus the life of an update
 pub few_rounds : (me : Member) (k : Knowledge) (l : Ledger) (d : Datagram) → Recalls me k l → IsMember me → is_tried me k d ≡ true
     → IsDatagram me.session.shape d → l.round ≤ 4294967037
 few_rounds me k l d h member tried fits =

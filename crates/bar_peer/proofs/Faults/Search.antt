@@ -1,4 +1,4 @@
--- What a search for evidence goes by, and what it finds.
+-- What a search for evidence reads, and what it finds.
 use Rattle.std.proofs.Common.{◌≡◌, ◌≢◌, ◌∙◌, ◌∷◌, [], List, ℕ, Bool, true, false, Option, Some, None, is_some, refl, sym, ap}
 use Rattle.std.specs.Prelude.{option_map, if◌then◌else◌}
 use Rattle.std.specs.Bool.{then_some}
@@ -9,23 +9,23 @@ use Rattle.bar_terms.specs.Table.{Table, digests_of}
 use Rattle.bar_wire.specs.Bodies.{is_peer_kind}
 use Rattle.bar_wire.specs.Datagram.{Datagram, place_of}
 use Rattle.bar_wire.specs.Places as places
-use Rattle.bar_wire.specs.Sides.{place_in}
-use Rattle.bar_wire.specs.Views.{datagram, plain}
+use Rattle.bar_wire.specs.Code.Sides.{place_in}
+use Rattle.bar_wire.specs.Code.Views.{datagram, plain}
 use Rattle.bar_wire.specs.declared.kind.Kind.{Kind}
 use Rattle.bar_wire.specs.declared.place.Place.{Place as CodePlace}
 use Rattle.bar_wire.specs.declared.shape.Shape.{Shape}
 use Rattle.bar_wire.specs.declared.view.View.{View}
-use Rattle.bar_judge.specs.Verdicts.{plain_fault}
+use Rattle.bar_judge.specs.Code.Verdicts.{plain_fault}
 use Rattle.bar_judge.specs.declared.fault.Fault.{Fault as CodeFault}
 use Rattle.bar_rules.specs.Judge.Verdict.{fault_of}
 use Rattle.bar_rules.specs.Member.{Session, Member}
 use Rattle.bar_rules.specs.Values.{datagram_bytes, datagram_of}
 use Rattle.bar_rules.specs.Peer.Evidence.{if_accuses, new_evidence, pair_with, pairs_of}
 use Rattle.bar_rules.specs.Peer.Knowledge.{Knowledge, table_of}
-use Rattle.bar_ledger.specs.Lookups.{heard_in}
+use Rattle.bar_ledger.specs.Code.Lookups.{heard_in}
 use Rattle.bar_peer.specs.declared.search.Search.{Search}
-use Rattle.bar_peer.specs.Arrivals.{IsReadBy}
-use Rattle.bar_peer.specs.Searching.{GoesBy, searched, searcher}
+use Rattle.bar_peer.specs.Code.Arrivals.{IsReadBy}
+use Rattle.bar_peer.specs.Code.Searching.{GoesBy, searched, searcher}
 use Rattle.bar_peer.proofs.Faults.Trials.{IsGood, IsRecalled, IsSpelled, IsTried, VerdictsAreFound, good_by, one_shown, pair_shown, pair_unshown, read_back, recalled_here, tried_parts}
 
 module _ (k : Knowledge) (s : Search) (goes : GoesBy k s) (reads : IsReadBy s.who.now s.arrival.now) (signed : is_peer_kind (plain s.arrival.now.view.body) ≡ true) where
@@ -53,7 +53,7 @@ module _ (k : Knowledge) (s : Search) (goes : GoesBy k s) (reads : IsReadBy s.wh
   good : IsSpelled → IsGood session d
   good spelled = good_by session d bytes spelled reads.spelled signed tried_at.accepted
 
-  -- what is read of the bytes that were heard at the place is what was heard there
+  -- the bytes that were heard at the place decode to the datagram that was heard there
   pub recalled_at : (kind : Kind) (place : CodePlace) (v : View) (heard : List ℕ) (shape : Shape) (read : Option View) → IsSpelled
       → s.arrival.now.place ≡ Some place → heard_in s.ledger.now kind place.x place.role ≡ Some heard → Some v ≡ read
       → option_map (datagram shape) read ≡ places.datagram_of shape heard → shape ≡ session.shape
@@ -64,7 +64,7 @@ module _ (k : Knowledge) (s : Search) (goes : GoesBy k s) (reads : IsReadBy s.wh
       (goes.recalls.heard kind place.x place.role (tried_at.near (place_in place) here) ∙ is)
       ((λ i. option_map (datagram (sym same i)) (v_is i)) ∙ told ∙ (λ i. places.datagram_of (same i) heard))
 
-  -- nothing was heard there
+  -- if the ledger holds nothing at the place, no pair is found
   pub unheard : (kind : Kind) (place : CodePlace) → s.arrival.now.place ≡ Some place → heard_in s.ledger.now kind place.x place.role ≡ None
       → pair_with session (table_of k) d (k.heard kind place.x place.role) ≡ None
   unheard kind place is none =
@@ -74,7 +74,7 @@ module _ (k : Knowledge) (s : Search) (goes : GoesBy k s) (reads : IsReadBy s.wh
       (sym (some-mapped (datagram_bytes session) o)
       ∙ ap is_some (goes.recalls.heard kind place.x place.role (tried_at.near (place_in place) (stands_at place is)) ∙ none)))
 
-  -- what was heard is read
+  -- bytes that were heard can be decoded
   pub heard_is_read : (kind : Kind) (place : CodePlace) (heard : List ℕ) → IsSpelled → s.arrival.now.place ≡ Some place
       → heard_in s.ledger.now kind place.x place.role ≡ Some heard → datagram_of session heard ≢ None
   heard_is_read kind place heard spelled is told unread =
@@ -89,11 +89,11 @@ module _ (k : Knowledge) (s : Search) (goes : GoesBy k s) (reads : IsReadBy s.wh
           cc
 
   module _ (o : Option Datagram) (heard : List ℕ) (e : Datagram) (spelled : IsSpelled) (was : IsRecalled session d o heard e) where
-    -- it shows no fault with what peers don't sign
+    -- a pair with a datagram that peers don't sign shows no fault
     pub unpaired : is_peer_kind e.message.body ≡ false → pair_with session (table_of k) d o ≡ None
     unpaired other = ap (pair_with session (table_of k) d) was.is ∙ pair_unshown session (table_of k) d e (good spelled) was.earlier other
 
-    -- else it shows one exactly where one is found
+    -- otherwise the pair is evidence if and only if a fault is found
     pub pair_found : VerdictsAreFound → is_peer_kind e.message.body ≡ true → (found : Option CodeFault) (shows : Bool)
         → option_map plain_fault found ≡ fault_of session table (e ∷ d ∷ []) → is_some found ≡ shows
         → then_some shows (heard ∷ bytes ∷ []) ≡ pair_with session (table_of k) d o
@@ -103,7 +103,7 @@ module _ (k : Knowledge) (s : Search) (goes : GoesBy k s) (reads : IsReadBy s.wh
         ∙ sym (pair_shown session table d e law (good spelled) was.earlier kind)
         ∙ (λ i. pair_with session (sym goes.table i) d (sym was.is i))
 
-  -- the evidence is the datagram itself where it shows a fault alone, and else a pair
+  -- the evidence is the datagram alone if it shows a fault, else a pair
   pub new_is : (found : Option CodeFault) (shows : Bool) (o : Option CodePlace) → IsSpelled → VerdictsAreFound
       → option_map plain_fault found ≡ fault_of session table (d ∷ []) → shows ≡ is_some found → s.arrival.now.place ≡ o
       → new_evidence me k d ≡ option_or (then_some shows (bytes ∷ [])) (pairs_of me k d (option_map place_in o))

@@ -1,4 +1,4 @@
--- Evidence that is looked for at a datagram.
+-- When a datagram is searched for evidence, and what a pair of datagrams shows.
 use Rattle.std.proofs.Common.{◌≡◌, ◌↔◌, ◌∙◌, ◌+◌, ◌≤◌, ℕ, true, false, List, [], ◌∷◌, Option, Some, None, is_some, sym, ap, refl, subst}
 use Rattle.std.specs.Prelude.{option_map}
 use Rattle.std.specs.Bool.{then_some}
@@ -29,13 +29,13 @@ use Rattle.bar_laws.proofs.Keeping.{accepted-of}
 use Rattle.bar_wire.proofs.ExchangeBy.{round-by}
 use Rattle.bar_peer.proofs.Hearing.Exchanges.{is_here}
 
--- the verdict on what is read, of one peer and accepted is what is found
+-- if the datagrams can be read, are of one peer and are accepted, the verdict is the fault that is found
 abbrev pub VerdictsAreFound : Type 0
 VerdictsAreFound =
     (s : Session) (table : Table) (evidence : List (List ℕ)) (ds : List Datagram) → all_read s evidence ≡ Some ds
     → are_of_one_peer ds ≡ true → list_all (is_signed_by s) ds ≡ true → verdict s table evidence ≡ judged s table ds (fault_of s table ds)
 
--- what is read is what the bytes spell
+-- bytes decode to a datagram if and only if they encode it
 abbrev pub IsSpelled : Type 0
 IsSpelled = (s : Shape) (d : Datagram) (bytes : List ℕ) → (places.datagram_of s bytes ≡ Some d) ↔ SpellsDatagram s d bytes
 
@@ -53,7 +53,7 @@ sender_at m p e = go (part_of m.body) e
     go (Some q) e =
         from_by q.0 q.1 q.2 m.from m.to ∙ ap (λ (p : Place). party_on p.exchange p.role) (same_Some (place_by m.from m.to q) p e)
 
--- two messages of one place are of one sender
+-- two messages with the same place have the same sender
 one_sender : (m n : Message) (p : Place) → place_of m ≡ Some p → place_of n ≡ Some p → m.from ≡ n.from
 one_sender m n p e f = sender_at m p e ∙ sym (sender_at n p f)
 
@@ -61,7 +61,7 @@ part_round : (b : Body) → round_of b ≡ option_map_or (λ q. q.0) (part_of b)
 part_round (Manifest r ds) = refl
 part_round _ = refl
 
--- a message is of its exchange's round
+-- the round of a message is that of its exchange
 pub round_at : (m : Message) (p : Place) → place_of m ≡ Some p → round_of m.body ≡ p.exchange.round
 round_at m p e = part_round m.body ∙ go (part_of m.body) e
   where
@@ -71,9 +71,9 @@ round_at m p e = part_round m.body ∙ go (part_of m.body) e
     go (Some q) e =
         sym (round-by q.0 q.1 q.2 m.from m.to) ∙ ap (λ (p : Place). p.exchange.round) (same_Some (place_by m.from m.to q) p e)
 
--- ---- what is accepted
+-- ---- accepted signatures
 
--- ---- what a verdict shows of a sender
+-- ---- verdicts about a sender
 
 judged_accuses : (s : Session) (t : Table) (ds : List Datagram) (q : ℕ) (o : Option Fault) → sender_of ds ≡ q
     → accuses q (judged s t ds o) ≡ is_some o
@@ -87,7 +87,7 @@ shown s t q evidence ds law read one signed from =
     ap (λ b. then_some b evidence)
     (ap (accuses q) (law s t evidence ds read one signed) ∙ judged_accuses s t ds q (fault_of s t ds) from)
 
--- a datagram that is of a kind that peers sign, accepted and read from its bytes
+-- a datagram of a kind that peers sign, with an accepted signature, that can be decoded from its bytes
 pub record IsGood (s : Session) (d : Datagram) : Type 0 where
   pub kind : is_peer_kind d.message.body ≡ true
   pub accepted : is_signed_by s d ≡ true
@@ -100,7 +100,7 @@ pub good_by : (s : Session) (d : Datagram) (bytes : List ℕ) → IsSpelled → 
     → is_signed_by s d ≡ true → IsGood s d
 good_by s d bytes spelled spells kind signed = record { kind = kind; accepted = signed; read = read_back s d spelled spells.fits }
 
--- one accuses its sender where a fault is found
+-- a datagram alone accuses its sender if and only if a fault is found
 pub one_shown : (s : Session) (t : Table) (d : Datagram) → VerdictsAreFound → IsGood s d
     → if_accuses s t d.message.from (datagram_bytes s d ∷ []) ≡ then_some (is_some (fault_of s t (d ∷ []))) (datagram_bytes s d ∷ [])
 one_shown s t d law good =
@@ -109,7 +109,7 @@ one_shown s t d law good =
     (and_from _ _ good.accepted refl)
     refl
 
--- An earlier datagram of the sender, whose signature is accepted where peers sign its kind.
+-- An earlier datagram of the sender. Its signature is accepted if peers sign its kind.
 pub record IsEarlier (s : Session) (d e : Datagram) : Type 0 where
   pub from : e.message.from ≡ d.message.from
   pub accepted : is_peer_kind e.message.body ≡ true → is_signed_by s e ≡ true
@@ -119,7 +119,7 @@ both_read : (s : Session) (d e : Datagram) → IsGood s d → IsEarlier s d e
     → all_read s (datagram_bytes s e ∷ datagram_bytes s d ∷ []) ≡ Some (e ∷ d ∷ [])
 both_read s d e good earlier = rw (earlier.read, good.read) refl
 
--- the two accuse their sender where a fault is found
+-- two datagrams accuse their sender if and only if a fault is found
 pub pair_shown : (s : Session) (t : Table) (d e : Datagram) → VerdictsAreFound → IsGood s d → IsEarlier s d e
     → is_peer_kind e.message.body ≡ true
     → pair_with s t d (Some e) ≡ then_some (is_some (fault_of s t (e ∷ d ∷ []))) (datagram_bytes s e ∷ datagram_bytes s d ∷ [])
@@ -130,7 +130,7 @@ pair_shown s t d e law good earlier kind =
     (and_from _ _ (earlier.accepted kind) (and_from _ _ good.accepted refl))
     earlier.from
 
--- and not where peers don't sign the earlier one
+-- they don't if peers don't sign the earlier one
 pub pair_unshown : (s : Session) (t : Table) (d e : Datagram) → IsGood s d → IsEarlier s d e → is_peer_kind e.message.body ≡ false
     → pair_with s t d (Some e) ≡ None
 pair_unshown s t d e good earlier other =
@@ -138,7 +138,7 @@ pair_unshown s t d e good earlier other =
     (sym (both_read s d e good earlier))
     (rw other refl)
 
--- ---- what was heard before
+-- ---- datagrams that were heard before
 
 pub earlier_of : (me : Member) (k : Knowledge) (d e : Datagram) (kind : Kind) (x : Exchange) (role : Role) → IsSpelled → IsSound me k
     → place_of d.message ≡ Some (record { exchange = x; role = role }) → k.heard kind x role ≡ Some e → IsEarlier me.session d e
@@ -151,7 +151,7 @@ earlier_of me k d e kind x role spelled sound at is = record {
   read = read_back me.session e spelled (sound.spelled kind x role e is);
 }
 
--- What the ledger recalls of a place are the bytes of what was heard there.
+-- The bytes that the ledger recalls at a place are those of the datagram that was heard there.
 pub record IsRecalled (s : Session) (d : Datagram) (o : Option Datagram) (heard : List ℕ) (e : Datagram) : Type 0 where
   pub is : o ≡ Some e
   pub bytes : datagram_bytes s e ≡ heard
@@ -179,7 +179,7 @@ recalled_here me k d e kind x role heard spelled sound at bytes read = go (k.hea
           earlier = earlier_of me k d e kind x role spelled sound at here;
         }
 
--- ---- what is tried
+-- ---- which datagrams are searched
 
 pub record IsTried (me : Member) (k : Knowledge) (d : Datagram) : Type 0 where
   pub accepted : is_signed_by me.session d ≡ true

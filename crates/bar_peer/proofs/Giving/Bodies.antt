@@ -15,13 +15,13 @@ use Rattle.bar_wire.proofs.EvidenceReads.{evidence_whole, lengths_fit}
 use Rattle.bar_wire.proofs.ReadBack.{entries_back}
 use Rattle.bar_wire.proofs.Written.{message_len}
 
--- what splits is evidence
+-- bytes that `split_evidence` accepts are evidence
 pub evidence_of : (bytes : List ℕ) (r : Result EvidenceView WireFault) → false ≡ is_err r → IfOk r (λ v. IsEvidence bytes (datagrams_of v))
     → (ds : List (List ℕ)) × IsEvidence bytes ds
 evidence_of bytes (Ok v) none found = (datagrams_of v, found)
 evidence_of bytes (Err fault) none found = absurd (cc)
 
--- its entries are its datagrams
+-- the entries of its encoding are its datagrams
 pub entries_of : (bytes rest : List ℕ) (count : ℕ) (ds : List (List ℕ)) → bytes ≡ count ∷ rest → IsEvidence bytes ds
     → entries count rest ≡ ds
 entries_of bytes rest count ds is of =
@@ -31,13 +31,13 @@ entries_of bytes rest count ds is of =
     let rests : rest ≡ flat ++ [] = cc in
     (λ i. entries (counts i) ((rests ∙ append-nil flat) i)) ∙ entries_back ds (lengths_fit ds of.range.2)
 
--- they are as long as their lengths say
+-- the entries have the lengths that they state
 pub whole_entries : (bytes rest : List ℕ) (count : ℕ) (ds : List (List ℕ)) → bytes ≡ count ∷ rest → IsEvidence bytes ds
     → length rest ≡ entries_len count rest
 whole_entries bytes rest count ds is of =
     omega (arith, evidence_whole (count ∷ rest) ds (subst (λ (x : List ℕ). IsEvidence x ds) is of))
 
--- a report has a header and the evidence
+-- the length of a report is that of the header and the evidence
 pub report_len : (s : Shape) (from : ℕ) (bytes rest : List ℕ) (count : ℕ) (ds : List (List ℕ)) → bytes ≡ count ∷ rest → IsEvidence bytes ds
     → length (message_bytes s (record { from = from; to = 0; body = Evidence (entries count rest) })) ≡ 16 + length bytes
 report_len s from bytes rest count ds is of =

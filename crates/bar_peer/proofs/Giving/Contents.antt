@@ -14,15 +14,15 @@ use Rattle.bar_rules.specs.Peer.Knowledge.{Knowledge}
 use Rattle.bar_rules.specs.Peer.Ticks.{content_of, content_at, contents_of_round}
 use Rattle.bar_store.specs.declared.kept_block.KeptBlock.{KeptBlock}
 use Rattle.bar_store.specs.declared.store.Store.{Store}
-use Rattle.bar_store.specs.Held.{block_in}
-use Rattle.bar_store.specs.Holds.{Holds}
-use Rattle.bar_store.specs.Rooms.{room_of, block_if}
-use Rattle.bar_peer.specs.Playing.{content_in, contents_in, PlaysFirst}
+use Rattle.bar_store.specs.Code.Held.{block_in}
+use Rattle.bar_store.specs.Code.Holds.{Holds}
+use Rattle.bar_store.specs.Code.Rooms.{room_of, block_if}
+use Rattle.bar_peer.specs.Code.Playing.{content_in, contents_in, PlaysFirst}
 use Rattle.bar_exchange.proofs.Begun.{if_none}
 
 -- ---- one by one
 
--- the first of the updates that are left, and the others
+-- the contents of the updates that are left are those of the first one, then those of the others
 pub one_first : (s : Store) (round next end : ℕ) → next < end
     → flat_map (content_in s round) (range_with_len next (end - next))
     ≡ content_in s round next ++ flat_map (content_in s round) (range_with_len (next + 1) (end - (next + 1)))
@@ -30,13 +30,13 @@ one_first s round next end more =
     let long : end - next ≡ suc (end - (next + 1)) = omega (arith, more) in
     ap (λ n. flat_map (content_in s round) (range_with_len next n)) long
 
--- none is left at the end
+-- at the end none is left
 pub none_after : (s : Store) (round next end : ℕ) → end ≤ next → flat_map (content_in s round) (range_with_len next (end - next)) ≡ []
 none_after s round next end done =
     let none : end - next ≡ zero = omega (arith, done) in
     ap (λ n. flat_map (content_in s round) (range_with_len next n)) none
 
--- what was played of an update that has a content, and of one that has none
+-- the contents of an update that has one, and of an update that has none
 pub one_content : (r : Option (Bor (List ℕ))) (xs : List (List ℕ)) → option_to_list (option_copied r) ≡ xs → is_some r ≡ true
     → (content : List ℕ) × (xs ≡ content ∷ [])
 one_content None xs h some = absurd (cc)
@@ -76,7 +76,7 @@ past_rooms per_round u (Some k) few past =
     let inside : k.id.index < per_round = few k refl in
     none_if (same_update u k.id) k.block (other_update u k.id (omega (arith, inside, past)))
 
--- their blocks aren't held
+-- the blocks of these updates aren't held
 none_past : (s : Store) (u : UpdateId) → s.per_round ≤ u.index → block_in s u ≡ None
 unfolding block_in
 none_past s u past =
@@ -95,7 +95,7 @@ all_none f a zero none = refl
 all_none f a (suc n) none =
     (λ i. none a (omega arith) i ++ all_none f (a + 1) n (λ j above. none j (omega (arith, above))) i)
 
--- those behind the last one that is anything add nothing
+-- if all elements after a position are empty, only those before it count
 ends_early : (f : ℕ → List (List ℕ)) (a n all : ℕ) → n ≤ all → ((i : ℕ) → a + n ≤ i → f i ≡ [])
     → flat_map f (range_with_len a all) ≡ flat_map f (range_with_len a n)
 ends_early f a zero all few none = all_none f a all (λ i above. none i (omega (arith, above)))
@@ -110,7 +110,7 @@ same_contents : (f : ℕ → List (List ℕ)) (g : UpdateId → List (List ℕ))
 same_contents f g round a zero same = refl
 same_contents f g round a (suc n) same = (λ i. same a i ++ same_contents f g round (a + 1) n same i)
 
--- what a store has of a round that is fresh is what is known of it
+-- the contents of a fresh round in the store are those in the knowledge
 pub contents_told : (me : Member) (k : Knowledge) (s : Store) (round : ℕ) → Holds me k s → me.session.shape.per_round ≤ 64 * words_of me.session.shape
     → IsFresh me k round → contents_in s round me.session.shape.per_round ≡ contents_of_round me k round
 unfolding contents_of_round

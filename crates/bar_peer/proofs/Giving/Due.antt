@@ -1,4 +1,4 @@
--- What an order's datagram is, by a log.
+-- The datagram of an order, given a log.
 use Rattle.std.proofs.Common.{◌≡◌, ◌∙◌, ℕ, ◌<◌, ◌≤◌, Bool, true, false, List, [], ◌∷◌, Option, Some, None, sym, ap, refl, subst, is_some, arith}
 use Rattle.std.specs.Prelude.{option_map, IfSome, Contains}
 use Rattle.std.proofs.lemmas.List.Elements.{Contains-append_right}
@@ -31,9 +31,9 @@ use Rattle.bar_laws.specs.Rewriting.{IsRewritten}
 use Rattle.bar_laws.specs.Sizes.{FitsItsRoom}
 use Rattle.bar_laws.specs.Soundness.{IsSound, CanGive}
 use Rattle.bar_wire.proofs.ExchangeBy.{round-by, kind-by}
-use Rattle.bar_exchange.specs.Writing.{CanWrite, CanSeal, IsSealable}
-use Rattle.bar_peer.specs.Giving.{IsDue, IsSignedFor}
-use Rattle.bar_peer.specs.Sending.{datagram_now, IsTimely}
+use Rattle.bar_exchange.specs.Code.Writing.{CanWrite, CanSeal, IsSealable}
+use Rattle.bar_peer.specs.Code.Giving.{IsDue, IsSignedFor}
+use Rattle.bar_peer.specs.Code.Sending.{datagram_now, IsTimely}
 use Rattle.bar_peer.proofs.Hearing.Exchanges.{is_here}
 
 -- ---- options
@@ -42,9 +42,9 @@ pub map_some : {A B : Type 0} (f : A → B) (o : Option A) (b : B) → option_ma
 map_some f None b h = absurd (cc)
 map_some f (Some a) b h = (a, refl, cc)
 
--- ---- what was said, in a log
+-- ---- datagrams that were said, in a log
 
--- The first datagram that passes stands in the log, and was signed by rule.
+-- The log contains the first datagram that passes the test, and it was signed by rule.
 pub record IsSaidIn (me : Member) (log : Log) (d : Datagram) : Type 0 where
   pub there : Contains log (Said d)
   pub low : 1 ≤ round_of d.message.body
@@ -75,12 +75,12 @@ in_log me p (e ∷ log) d h is = by (first_said p log) (λ now. now_said me p lo
     by None now before is = now is
     by (Some f) now before is = before is
 
--- ---- what is of a kind, exchange and side
+-- ---- messages of a kind, exchange and side
 
 abbrev place : Exchange → Role → Place
 place x role = record { exchange = x; role = role }
 
--- A body is of this kind, and of this round, kind and side of an exchange.
+-- The message is of this kind, and of this exchange and side.
 record IsOfPart (x : Exchange) (kind : Kind) (role : Role) (m : Message) : Type 0 where
   pub of_kind : kind_of m.body ≡ kind
   pub at : place_of m ≡ Some (place x role)
@@ -118,7 +118,7 @@ round_of_part (Key g) p h = let same : (g.round, g.kind, g.role) ≡ p = cc in a
 
 -- ---- the datagram of an order
 
--- What the laws say of a log.
+-- The laws that hold of a log.
 pub record AreLaws (me : Member) (log : Log) : Type 0 where
   pub obedient : IsObedient me log
   pub sound : IsSound me (known me log)
@@ -148,7 +148,7 @@ signed_for me log kind x d b laws said is =
     seats None h = tt
     seats (Some seat) h = h seat refl
 
--- what was said is written again
+-- what was said is written in the same way again
 due_said : (me : Member) (log : Log) (kind : Kind) (x : Exchange) (d : Datagram) → AreLaws me log → is_signed_kind kind ≡ true
     → body_now me (known me log) kind x ≡ body_again me (known me log) kind x → IsRecent me (known me log) x.round
     → (IsRound me.session.shape x.round → CanWrite me (known me log) kind x)
@@ -167,7 +167,7 @@ due_said me log kind x d laws seal same recent can said =
       signature = subst (λ b. MatchBool b (IsSignedFor me k (record { kind = kind; x = x }) d) (d.signature ≡ [])) (sym seal) for;
     }
 
--- what isn't signed is written by what is known now
+-- an unsigned message is written from the current knowledge
 due_unsigned : (me : Member) (k : Knowledge) (kind : Kind) (x : Exchange) (d : Datagram) → is_signed_kind kind ≡ false
     → IsRecent me k x.round → CanWrite me k kind x → option_map (λ b. unsigned (message_to me x b)) (body_now me k kind x) ≡ Some d
     → IsDue me k (record { kind = kind; x = x }) d
@@ -183,7 +183,7 @@ due_unsigned me k kind x d plain recent can is =
           (ap (λ (e : Datagram). e.signature) now.2);
     }
 
--- nothing is written of the other kinds
+-- no message of the other kinds was said
 never : (me : Member) (k : Knowledge) (kind : Kind) (x : Exchange) (d : Datagram) → IsRewritten me k → body_again me k kind x ≡ None
     → k.said kind x (role_of me x) ≡ Some d → ⊥
 never me k kind x d h none said =

@@ -1,22 +1,22 @@
--- The CASEs that are kept.
+-- The kept CASEs are due now.
 use Rattle.std.proofs.Common.{◌≡◌, ◌⊎◌, inl, inr, Bool, true, false, List, ℕ, refl, sym, subst}
 use Rattle.bar_window.specs.declared.exchange.Exchange.{Exchange}
-use Rattle.bar_peer.specs.Cases.{AreCasesNow, IsCaseNow, IsIn, IsInOrNew, KeepsNone}
+use Rattle.bar_peer.specs.Code.Cases.{AreCasesNow, IsCaseNow, IsIn, IsInOrNew, KeepsNone}
 use Rattle.bar_peer.specs.declared.cases.Cases.{Cases}
 use Rattle.bar_peer.specs.declared.memory.Memory.{Memory}
 
--- nothing is kept where no room is named
+-- if no room is labelled, no CASE is kept
 pub none_kept : (m : Memory) (c : Cases) → KeepsNone c → AreCasesNow m c
 none_kept m c none x bytes is = absurd (cc (none is.number, is.named))
 
--- what is kept is given up where the memory changed
+-- if the memory changed, the kept CASEs are dropped
 pub kept_while : (old new : Memory) (before after : Cases) (same : Bool) → AreCasesNow old before → (same ≡ true → new ≡ old)
     → (same ≡ true → after ≡ before) → (same ≡ false → KeepsNone after) → AreCasesNow new after
 kept_while old new before after true h memory kept cleared =
     subst (λ m. AreCasesNow m after) (sym (memory refl)) (subst (AreCasesNow old) (sym (kept refl)) h)
 kept_while old new before after false h memory kept cleared = none_kept new after (cleared refl)
 
--- one more is kept
+-- one more CASE is kept
 pub kept_more : (m : Memory) (old new : Cases) (x : Exchange) (bytes : List ℕ) → AreCasesNow m old → IsInOrNew x bytes old new
     → IsCaseNow m x bytes → AreCasesNow m new
 kept_more m old new x bytes h more now y kept is = go (more y kept is)

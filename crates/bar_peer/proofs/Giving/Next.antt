@@ -17,15 +17,15 @@ use Rattle.bar_laws.specs.Rewriting.{RunIsRewritten}
 use Rattle.bar_laws.specs.Sizes.{LogKeepsShortEvidence}
 use Rattle.bar_laws.specs.Soundness.{LogIsSound}
 use Rattle.bar_exchange.specs.declared.say.Say.{Say}
-use Rattle.bar_exchange.specs.Writing.{IsWritten, bytes_to}
+use Rattle.bar_exchange.specs.Code.Writing.{IsWritten, bytes_to}
 use Rattle.bar_peer.specs.declared.order.Order.{Order}
 use Rattle.bar_peer.specs.declared.order.Order.TheVariants as queued
-use Rattle.bar_peer.specs.Giving.{IsDue, IsOrderDue, receiver_of}
-use Rattle.bar_rules.specs.Giving.{IsGiven}
-use Rattle.bar_peer.specs.Sending.{AreFor, IsOrderTimely, datagram_now, order_now, report_of}
+use Rattle.bar_peer.specs.Code.Giving.{IsDue, IsOrderDue, receiver_of}
+use Rattle.bar_rules.specs.Code.Giving.{IsGiven}
+use Rattle.bar_peer.specs.Code.Sending.{AreFor, IsOrderTimely, datagram_now, order_now, report_of}
 use Rattle.bar_peer.proofs.Giving.Due.{AreLaws, due, map_some}
 
--- no orders are left where nothing is to be sent
+-- if nothing is to be sent, no orders are left
 pub none_left : (me : Member) (k : Knowledge) (left new : List Order) (sends : List (ℕ × Datagram)) → left ≡ [] → new ≡ []
     → AreFor me k left sends → (sends ≡ []) × AreFor me k new []
 none_left me k left new [] none empty h = (refl, record { same = ap (map (order_now me k)) empty; timely = rest })
@@ -35,7 +35,7 @@ none_left me k left new [] none empty h = (refl, record { same = ap (map (order_
 none_left me k left new (send ∷ sends) none empty h =
     let is : [] ≡ Some send ∷ map Some sends = sym (ap (map (order_now me k)) none) ∙ h.same in absurd (cc)
 
--- An order's datagram is the first that is to be sent, and the others are left.
+-- The order's datagram is the first that is to be sent, and the others are left.
 pub record IsNext (me : Member) (k : Knowledge) (order : Order) (left : List Order) (sends : List (ℕ × Datagram)) : Type 0 where
   pub given : Datagram
   pub rest : List (ℕ × Datagram)
@@ -43,7 +43,7 @@ pub record IsNext (me : Member) (k : Knowledge) (order : Order) (left : List Ord
   pub due : IsOrderDue me k order given
   pub others : AreFor me k left rest
 
--- the laws of the log that inputs leave
+-- the laws hold of the log after any inputs
 laws_of : (me : Member) (inputs : List Input) → IsMember me → LeafDiscipline → LogIsSound → SignedByRule → RunIsRewritten
     → LogKeepsShortEvidence → AreLaws me (log_after me [] inputs)
 laws_of me inputs member leaves sound ruled rewritten short =
@@ -58,7 +58,7 @@ laws_of me inputs member leaves sound ruled rewritten short =
       life = member.session.shape.life_low;
     }
 
--- An order's datagram and its receiver are what is sent.
+-- The sent datagram is that of the order, with its receiver.
 record IsSent (me : Member) (k : Knowledge) (order : Order) (send : ℕ × Datagram) : Type 0 where
   datagram : Datagram
   is : send ≡ (receiver_of me order, datagram)
@@ -107,9 +107,9 @@ pub next_of : (me : Member) (inputs : List Input) → IsMember me → LeafDiscip
 next_of me inputs member leaves sound ruled rewritten short order old left sends first h =
     next_by me (log_after me [] inputs) order old left sends (laws_of me inputs member leaves sound ruled rewritten short) first h
 
--- ---- what is written
+-- ---- writing
 
--- the message of a datagram that is due is written
+-- if a datagram is due, its message is written
 pub written_is : (me : Member) (k : Knowledge) (say : Say) (d : Datagram) (n : ℕ) (out : List ℕ) → IsDue me k say d
     → IsWritten me say.x (body_now me k say.kind say.x) (Some n) out → take n out ≡ message_bytes me.session d.message
 written_is me k say d n out h is =
@@ -117,13 +117,13 @@ written_is me k say d n out h is =
     let bytes : take n out ≡ bytes_to me say.x d.message.body = cc in
     bytes ∙ ap (message_bytes me.session) (sym h.message)
 
--- and it can't be that nothing is
+-- so it is impossible that none is written
 pub never_unwritten : (me : Member) (k : Knowledge) (say : Say) (d : Datagram) (out : List ℕ) → IsDue me k say d
     → IsWritten me say.x (body_now me k say.kind say.x) None out → ⊥
 never_unwritten me k say d out h is =
     let both : None ≡ Some (bytes_to me say.x d.message.body) = is ∙ ap (option_map (bytes_to me say.x)) h.body in absurd (cc)
 
--- what is given has a length
+-- if a datagram is given, the result is a length
 pub never_none : (me : Member) (d : Datagram) (result : Option ℕ) (buf : List ℕ) → IsGiven me.session d result buf
     → ((n : ℕ) → result ≡ Some n → ⊥) → ⊥
 never_none me d None buf h not = h

@@ -1,8 +1,8 @@
--- What stands behind a message in a buffer.
+-- A signature after a message in a buffer.
 use Rattle.std.proofs.Common.{◌≡◌, ◌∙◌, ℕ, ◌+◌, List, ◌++◌, length, take, sym}
 use Rattle.std.proofs.Math.Seq.{take-append-add}
 
--- the front of a split buffer is a message, and a signature is written behind it
+-- if a buffer is split after a message and the signature is written to the rest, the buffer starts with both
 pub behind : (len n : ℕ) (old front back message signature : List ℕ) → length front ≡ len → front ≡ take len old → take len old ≡ message
     → take n back ≡ signature → take (len + n) (front ++ back) ≡ message ++ signature
 behind len n old front back message signature long is same signed =

@@ -1,4 +1,4 @@
--- What is told of an exchange.
+-- The totals that are reported of an exchange.
 use Rattle.std.proofs.Common.{◌≡◌, ◌∙◌, ℕ, ◌+◌, Bool, true, false, ◌&&◌, Option, Some, None, sym, ap, refl, subst, arith, length}
 use Rattle.std.specs.Prelude.{nat_le, is_some, option_map, option_and_then, IfSome, if◌then◌else◌}
 use Rattle.std.specs.Option.{option_map_or}
@@ -30,18 +30,18 @@ use Rattle.bar_laws.specs.Rewriting.{IsRewritten}
 use Rattle.bar_laws.specs.Soundness.{IsSound}
 use Rattle.bar_ledger.specs.declared.entry.Entry.{Entry}
 use Rattle.bar_ledger.specs.declared.ledger.Ledger.{Ledger}
-use Rattle.bar_ledger.specs.Kept.{Kept, IsKeptFor}
-use Rattle.bar_ledger.specs.Lookups.{is_said, said_by, heard_by}
-use Rattle.bar_ledger.specs.Memory.{find_in}
-use Rattle.bar_ledger.specs.Recalls.{Recalls, IsKeptBy, complete_terms}
-use Rattle.bar_ledger.specs.Totals.{AreSound, totals_by}
+use Rattle.bar_ledger.specs.Code.Kept.{Kept, IsKeptFor}
+use Rattle.bar_ledger.specs.Code.Lookups.{is_said, said_by, heard_by}
+use Rattle.bar_ledger.specs.Code.Memory.{find_in}
+use Rattle.bar_ledger.specs.Code.Recalls.{Recalls, IsKeptBy, complete_terms}
+use Rattle.bar_ledger.specs.Code.Totals.{AreSound, totals_by}
 use Rattle.bar_ledger.specs.declared.totals.Totals.{Totals as Told}
 use Rattle.bar_laws.proofs.Logs.{some-is}
-use Rattle.bar_peer.specs.Telling.{HasTotals, AreTotals, no_totals}
+use Rattle.bar_peer.specs.Code.Telling.{HasTotals, AreTotals, no_totals}
 use Rattle.bar_peer.proofs.Hearing.Keys.{is_case}
 use Rattle.bar_bytes.proofs.Options.{some-mapped, none-of, then-value}
 
--- ---- what was said
+-- ---- the CASE that was said
 
 -- The terms of an exchange whose CASE this member said, and the size of its promise.
 record IsPromised (me : Member) (k : Knowledge) (x : Exchange) : Type 0 where
@@ -61,7 +61,7 @@ promised me k x rewritten said =
     let d = some-is (k.said kinds.Case x (role_of me x)) said in
     promised_by me k x d.0 (terms_of me k x) refl d.1 (rewritten.same kinds.Case x d.0 d.1)
 
--- ---- what was heard
+-- ---- the CASE that was heard
 
 received : (me : Member) (k : Knowledge) (x : Exchange) (t : Terms) (o : Option Datagram) → IsSound me k → terms_of me k x ≡ Some t
     → k.heard kinds.Case x (other_role (role_of me x)) ≡ o
@@ -75,7 +75,7 @@ received me k x t (Some d) sound terms e =
     let same : c.0.terms ≡ t = same_Some c.0.terms t (sym theirs.terms ∙ terms) in
     ap (promise_size me.session) found ∙ (λ i. length (promise me.session.cap (same i) (theirs.side i)))
 
--- ---- where nothing was said
+-- ---- if no CASE was said
 
 no_case : (me : Member) (k : Knowledge) (x : Exchange) (o : Option Briefcase) → IsSound me k
     → has_said_of k kinds.Case x (role_of me x) ≡ false → case_heard me k x ≡ o → o ≡ None
@@ -86,7 +86,7 @@ if_zero : (b : Bool) (n : ℕ) → n ≡ 0 → (if b then n else 0) ≡ 0
 if_zero true n zero = zero
 if_zero false n zero = refl
 
--- nothing was promised, received or opened
+-- if no CASE was said, the totals are zeros
 nothing_told : (me : Member) (k : Knowledge) (x : Exchange) (told : Told) → IsSound me k
     → has_said_of k kinds.Case x (role_of me x) ≡ false → told ≡ record { promised = 0; received = 0; opened = 0 }
     → HasTotals (totals me k x) told
@@ -112,7 +112,7 @@ recent_told me k x told true e recent past =
 recent_told me k x told false e recent past =
     subst (λ (b : Bool). HasTotals (if b then totals me k x else no_totals) told) (sym e) (past refl)
 
--- zeros are told of an exchange whose CASE wasn't said
+-- zeros are reported for an exchange whose CASE wasn't said
 pub none_told : (me : Member) (k : Knowledge) (x : Exchange) (told : Told) → IsSound me k
     → (IsRecent me k x.round → has_said_of k kinds.Case x (role_of me x) ≡ false)
     → told ≡ record { promised = 0; received = 0; opened = 0 } → AreTotals me k x told
@@ -126,9 +126,9 @@ none_told me k x told sound none zeros =
       opened = ap (λ (t : Told). t.opened) zeros;
     })
 
--- ---- what is kept
+-- ---- the kept state
 
--- An exchange that is kept may be asked about, and what is kept of it is of this member's side.
+-- A kept exchange may still be asked about, and its side is this member's.
 pub record IsFound (me : Member) (k : Knowledge) (l : Ledger) (x : Exchange) (e : Entry) : Type 0 where
   pub kept : Kept
   pub found : find_in l x ≡ Some kept
@@ -177,9 +177,9 @@ terms_kept me k l x e t recalls f terms =
     then-value f.kept.entry.complete (plain_terms f.kept.entry.terms) t
     (sym (recalls.terms x f.recent ∙ ap (option_and_then complete_terms) f.found) ∙ terms)
 
--- ---- what is told of it
+-- ---- the reported totals
 
--- no CASE was said where none is marked, nor where the exchange isn't kept
+-- if no CASE is marked as said, or the exchange isn't kept, no CASE was said
 pub no_case_said : (me : Member) (k : Knowledge) (l : Ledger) (x : Exchange) (e : Entry) → Recalls me k l → IsFound me k l x e
     → e.case_said ≡ false → has_said_of k kinds.Case x (role_of me x) ≡ false
 no_case_said me k l x e recalls f none =
@@ -190,7 +190,7 @@ pub nothing_kept : (me : Member) (k : Knowledge) (l : Ledger) (x : Exchange) →
 nothing_kept me k l x recalls recent none =
     recalls.said kinds.Case x (role_of me x) recent ∙ ap (λ o. option_map_or (said_by kinds.Case (role_of me x)) o false) none
 
--- the terms of an exchange whose CASE was said are such that each side can promise
+-- if the CASE of an exchange was said, each side can promise something by its terms
 pub said_soundly : (me : Member) (k : Knowledge) (l : Ledger) (x : Exchange) (e : Entry) → Recalls me k l → IsSound me k → IsRewritten me k
     → IsFound me k l x e → e.case_said ≡ true → AreSound l.cap e.terms
 said_soundly me k l x e recalls sound rewritten f said =
@@ -204,7 +204,7 @@ said_soundly me k l x e recalls sound rewritten f said =
       valid = (λ i. can_promise (recalls.cap i) (same i)) ∙ (sound.cases x p.agreed marked p.terms).valid;
     })
 
--- what was promised, received and opened is told of an exchange whose CASE was said
+-- if the CASE of an exchange was said, the reported totals are those of the rules
 pub kept_told : (me : Member) (k : Knowledge) (l : Ledger) (x : Exchange) (e : Entry) (told : Told) → Recalls me k l → IsSound me k
     → IsRewritten me k → IsFound me k l x e → e.case_said ≡ true
     → told ≡ option_map_or (totals_by l.cap) (find_in l x) (record { promised = 0; received = 0; opened = 0 })

@@ -1,4 +1,4 @@
--- A good opening gives the blocks of its updates that are alive.
+-- A good opening gives the blocks of its alive updates.
 use Rattle.std.proofs.Common.{◌≡◌, ◌∙◌, ℕ, ◌+◌, ◌&&◌, Bool, true, false, List, [], ◌∷◌, ◌++◌, map, Option, Some, None, is_some, sym, ap, refl, nat_le, nat_lt, if◌then◌else◌, cond, find, zip, option_map}
 use Rattle.std.specs.Bool.{then_some}
 use Rattle.std.specs.List.{range_with_len}
@@ -19,12 +19,12 @@ use Rattle.bar_wire.specs.Datagram.{Briefcase}
 use Rattle.bar_rules.specs.Member.{Session, is_alive}
 use Rattle.bar_rules.specs.Values.{opening_of, is_good, opened_block}
 use Rattle.bar_rules.specs.Peer.Admission.{has_digest}
-use Rattle.bar_peer.specs.Opening.{is_to_hold, block_in_item, block_in_items, IsNear, AreGiven}
+use Rattle.bar_peer.specs.Code.Opening.{is_to_hold, block_in_item, block_in_items, IsNear, AreGiven}
 use Rattle.bar_window.proofs.Sets.{same_is}
 use Rattle.bar_peer.proofs.Hearing.Items.{none_if}
 use Rattle.bar_bytes.proofs.Tests.{and-false}
 
--- the block of an update among those of updates
+-- the block of an update, from a list of updates and their blocks
 abbrev block_among : List UpdateId → List (List ℕ) → UpdateId → Option (List ℕ)
 block_among us blocks u = option_map (λ p. p.1) (find (λ p. same_update u p.0) (zip us blocks))
 
@@ -32,7 +32,7 @@ known_listed : (o : Option (List (List ℕ))) (index : ℕ) (d : List ℕ) → d
 known_listed (Some ds) index d e = refl
 known_listed None index d e = absurd (cc)
 
--- a block with the digest that the table says is to be held while it is alive
+-- a block with the digest in the table is to be held if and only if its update is alive
 told_held : (table : Table) (life now : ℕ) (v : UpdateId) (block : List ℕ) → digest_of table v ≡ Known (sha256 block) → IsNear table now
     → is_to_hold table life now v block ≡ (nat_lt now (v.round + life) && true)
 told_held table life now v block told near =
@@ -45,7 +45,7 @@ junk_none table life now [] blocks u = refl
 junk_none table life now (n ∷ ns) [] u = refl
 junk_none table life now (n ∷ ns) (block ∷ blocks) u = junk_none table life now ns blocks u
 
--- an update more has its block before the others
+-- adding an update to the list puts its block before the others
 among_more : (table : Table) (life now : ℕ) (v : UpdateId) (block : List ℕ) (us : List UpdateId) (blocks : List (List ℕ)) (u : UpdateId) (others : Option (List ℕ))
     → digest_of table v ≡ Known (sha256 block) → IsNear table now
     → others ≡ (if nat_lt now (u.round + life) then block_among us blocks u else None)
@@ -88,7 +88,7 @@ not_good (Good n) bad = absurd (bad n refl)
 not_good (Bad item) bad = refl
 not_good (Unknown item) bad = refl
 
--- an opening that isn't good gives no block
+-- a bad opening gives no block
 pub bad_given : (s : Session) (table : Table) (x : Exchange) (c : Briefcase) (key : List ℕ) (blocks : List (List ℕ)) (now : ℕ)
     → ((n : ℕ) → opening_of s table x c key ≡ Good n → ⊥) → AreGiven s now table x key (Some c) [] blocks
 unfolding opened_block

@@ -1,4 +1,4 @@
--- What is known after a datagram of an exchange was heard.
+-- The knowledge after a datagram of an exchange was heard.
 use Rattle.std.proofs.Common.{◌≡◌, ◌∙◌, ◌&&◌, ℕ, Bool, true, false, not, Option, Some, None, is_some, sym, ap, refl, option_map}
 use Rattle.std.specs.Option.{option_map_or}
 use Rattle.std.proofs.lemmas.Bool.{not-true, and_parts, false≢true, both_ways}
@@ -34,7 +34,7 @@ placed (Some p) x role e =
     let parts = and_parts _ _ e in
     λ i. Some (record { exchange = same_exchange-is p.exchange x parts.0 i; role = same_role-is p.role role parts.1 i })
 
--- The message is of this kind, and stands on this side of the exchange.
+-- The message is of this kind, and on this side of the exchange.
 pub record IsHere (m : Message) (kind : Kind) (x : Exchange) (role : Role) : Type 0 where
   pub kind_is : kind_of m.body ≡ kind
   pub place_is : place_of m ≡ Some (record { exchange = x; role = role })
@@ -54,7 +54,7 @@ unheard : (signed again : Bool) → not (signed && again) ≡ true → signed �
 unheard true again e is = not-true again e
 unheard false again e is = absurd (false≢true is)
 
--- a request that is admitted is the first of its exchange
+-- an admitted request is the first of its exchange
 pub request_unheard : (me : Member) (k : Knowledge) (d : Datagram) (x : Exchange) → is_admitted me k d ≡ true
     → IsHere d.message (request_kind x.kind) x Initiator → has_heard_of k (request_kind x.kind) x Initiator ≡ false
 unfolding is_admitted

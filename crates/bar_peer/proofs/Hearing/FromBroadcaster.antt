@@ -1,4 +1,4 @@
--- What is known after a datagram to all, or a block, was heard.
+-- The knowledge after a datagram to all, or a BLOCK, was heard.
 use Rattle.std.proofs.Common.{◌≡◌, ◌∙◌, ◌==◌, ◌+◌, ◌*◌, ◌/◌, ◌≤◌, ◌&&◌, ◌||◌, inl, inr, ℕ, Bool, true, false, List, [], ◌∷◌, Option, Some, None, is_some, nat_lt, sym, ap, refl, subst, arith, option_map, if◌then◌else◌}
 use Rattle.std.specs.Bool.{then_some}
 use Rattle.std.specs.List.{list_any}
@@ -17,22 +17,22 @@ use Rattle.bar_rules.specs.Peer.Knowledge.{Knowledge, this_round, table_of, lear
 use Rattle.bar_rules.specs.Peer.Terms.{terms_by}
 use Rattle.bar_laws.specs.Soundness.{IsSound}
 use Rattle.bar_ledger.specs.declared.ledger.Ledger.{Ledger}
-use Rattle.bar_ledger.specs.Recalls.{Recalls}
+use Rattle.bar_ledger.specs.Code.Recalls.{Recalls}
 use Rattle.bar_store.specs.declared.store.Store.{Store}
-use Rattle.bar_store.specs.Holds.{Holds}
+use Rattle.bar_store.specs.Code.Holds.{Holds}
 use Rattle.bar_peer.specs.declared.memory.Memory.{Memory}
-use Rattle.bar_peer.specs.Memory.{IsMemoryOf}
+use Rattle.bar_peer.specs.Code.Memory.{IsMemoryOf}
 use Rattle.bar_peer.proofs.Hearing.Keys.{listed}
 use Rattle.bar_bytes.proofs.Options.{or-none, none-of}
 
--- by the body of what was heard
+-- the knowledge depends on the body of the datagram
 pub by_body : (me : Member) (k : Knowledge) (d : Datagram) (b : Body) (m : Memory) → d.message.body ≡ b → IsMemoryOf me (learned me d k b) m
     → IsMemoryOf me (with_heard me d k) m
 by_body me k d b m e h = subst (λ b. IsMemoryOf me (learned me d k b) m) (sym e) h
 
--- ---- what stays
+-- ---- what is unchanged
 
--- the stream and the evictions are known otherwise, and the exchanges as before
+-- only the knowledge of the stream and of evictions changes
 abbrev pub other_stream : (ℕ → Option Datagram) → (ℕ → Bool) → (ℕ → Bool) → (UpdateId → Option (List ℕ)) → Knowledge → Knowledge
 other_stream manifest has_evict is_announced block k = record k {
   manifest = manifest;
@@ -84,7 +84,7 @@ digest_listed : (o : Option (List (List ℕ))) (index : ℕ) (block : List ℕ) 
 digest_listed (Some ds) index block e = refl
 digest_listed None index block e = absurd (false≢true e)
 
--- a block that is admitted is of the next round at most
+-- an admitted BLOCK is of the next round at most
 pub block_near : (me : Member) (k : Knowledge) (from to : ℕ) (u : UpdateId) (block : List ℕ) → IsSound me k
     → is_row_met me k from to (Block u block) ≡ true → u.round ≤ this_round k + 1
 block_near me k from to u block sound row =
@@ -93,7 +93,7 @@ block_near me k from to u block sound row =
 
 -- ---- manifests
 
--- a manifest that is admitted is the first of its round
+-- an admitted manifest is the first of its round
 pub manifest_new : (me : Member) (k : Knowledge) (d : Datagram) (round : ℕ) (digests : List (List ℕ)) → is_admitted me k d ≡ true
     → d.message.body ≡ Manifest round digests → k.manifest round ≡ None
 unfolding is_admitted
@@ -102,7 +102,7 @@ manifest_new me k d round digests e body =
     none-of (k.manifest round)
     (subst (λ b. is_heard_again k (record { from = d.message.from; to = d.message.to; body = b }) ≡ false) body fresh)
 
--- the bytes that are kept by number, with one more
+-- the bytes kept at each number, with one more
 pub kept_more : {A : Type 0} (bytes : A → List ℕ) (first : ℕ → Option A) (a : A) (here n : ℕ) (kept : Option (List ℕ)) → first here ≡ None
     → option_map bytes (first n) ≡ kept
     → option_map bytes (option_or (first n) (then_some (here == n) a)) ≡ (if n == here then Some (bytes a) else kept)

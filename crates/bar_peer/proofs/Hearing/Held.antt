@@ -1,4 +1,4 @@
--- What a memory holds after a datagram was heard.
+-- The memory after a datagram was heard.
 use Rattle.std.proofs.Common.{◌≡◌, ◌≢◌, ◌∙◌, ◌==◌, ◌+◌, ◌-◌, ◌≤◌, ℕ, Bool, true, false, List, ◌∷◌, length, Some, None, is_some, sym, ap, refl, subst, arith, option_map, option_and_then, if◌then◌else◌}
 use Rattle.std.specs.Borrow.{Bor}
 use Rattle.std.specs.Bool.{then_some}
@@ -14,7 +14,7 @@ use Rattle.bar_wire.specs.Datagram.{Datagram, Body, Manifest, Block, Request, Re
 use Rattle.bar_wire.specs.Evidence.{evidence_bytes}
 use Rattle.bar_wire.specs.Grammar.{IsDatagram, SpellsDatagram, MaySend}
 use Rattle.bar_wire.specs.Limits.{everyone}
-use Rattle.bar_wire.specs.Views.{plain}
+use Rattle.bar_wire.specs.Code.Views.{plain}
 use Rattle.bar_wire.specs.declared.kind.Kind.{Kind}
 use Rattle.bar_wire.specs.declared.kind.Kind.TheVariants as kinds
 use Rattle.bar_wire.specs.declared.shape.Shape.{Shape}
@@ -33,25 +33,25 @@ use Rattle.bar_laws.specs.Knowing.{EntryIsLearned}
 use Rattle.bar_laws.specs.Rooms.{LogLeavesRoom, asking_at, asking_of, is_kept}
 use Rattle.bar_laws.specs.Sizes.{LogFitsRooms}
 use Rattle.bar_laws.specs.Soundness.{LogIsSound}
-use Rattle.bar_ledger.specs.Recalls.{Recalls}
+use Rattle.bar_ledger.specs.Code.Recalls.{Recalls}
 use Rattle.bar_store.specs.declared.store.Store.{Store}
-use Rattle.bar_store.specs.Holds.{Holds}
-use Rattle.bar_bytes.specs.Rooms.{kept_in}
+use Rattle.bar_store.specs.Code.Holds.{Holds}
+use Rattle.bar_bytes.specs.Code.Rooms.{kept_in}
 use Rattle.bar_bytes.proofs.Options.{some-mapped}
-use Rattle.bar_exchange.specs.Keeping.{IsAdmittedNow}
+use Rattle.bar_exchange.specs.Code.Keeping.{IsAdmittedNow}
 use Rattle.bar_peer.specs.declared.credentials.Credentials.{Credentials}
 use Rattle.bar_peer.specs.declared.memory.Memory.{Memory}
-use Rattle.bar_peer.specs.Evictions.{was_heard, is_named}
-use Rattle.bar_peer.specs.Hearing.{LeavesRoomFor}
-use Rattle.bar_peer.specs.Memory.{IsMemoryOf, Represents, member_of}
-use Rattle.bar_peer.specs.Repeats.{is_of_exchange}
+use Rattle.bar_peer.specs.Code.Evictions.{was_heard, is_named}
+use Rattle.bar_peer.specs.Code.Hearing.{LeavesRoomFor}
+use Rattle.bar_peer.specs.Code.Memory.{IsMemoryOf, Represents, member_of}
+use Rattle.bar_peer.specs.Code.Repeats.{is_of_exchange}
 use Rattle.bar_peer.proofs.Hearing.Exchanges.{IsHere, is_here, unseated}
 use Rattle.bar_peer.proofs.Hearing.Keys.{admitted_for}
 use Rattle.bar_peer.proofs.Hearing.RoomLeft.{asking_by, room-left}
 
--- ---- what a log tells
+-- ---- representing a log
 
--- a memory that holds what is known after a datagram holds what the log tells
+-- if a memory represents the knowledge after a datagram, it represents the log with this datagram
 pub heard_tells : EntryIsLearned → (old new : Memory) (log : Log) (d : Datagram) → new.who ≡ old.who
     → IsMemoryOf (member_of old.who) (with_heard (member_of old.who) d (known (member_of old.who) log)) new → Represents (Heard d ∷ log) new
 heard_tells entry old new log d who h =
@@ -79,7 +79,7 @@ asks : (kind : XKind) → is_asking (request_kind kind) ≡ true
 asks Balanced = refl
 asks Push = refl
 
--- What a request is: from its initiator to one other party, and it takes a seat.
+-- Properties of a request: its initiator sends it to one other party, and it takes a seat.
 record Asks (me : Member) (k : Knowledge) (d : Datagram) (b : Body) : Type 0 where
   apart : (s : Shape) (from to : ℕ) → MaySend s (kind_of b) from to → from ≢ to
   to_one : is_to_all b ≡ false
@@ -145,7 +145,7 @@ leaves_room leaves sound entry me log d fits obeys x is =
     in
     room-left leaves sound me log (Heard d) obeys x free kept
 
--- ---- what a datagram of an exchange leaves as it was
+-- ---- what a datagram of an exchange doesn't change
 
 record Stays (k new : Knowledge) : Type 0 where
   ticks : new.ticks ≡ k.ticks
@@ -168,7 +168,7 @@ stays me d k (Block u b) e = absurd (false≢true e)
 stays me d k (Evidence ds) e = absurd (false≢true e)
 stays me d k (Evict r ps) e = absurd (false≢true e)
 
--- but a BLOCK and a KEY, none gives a block
+-- only a BLOCK or a KEY gives a block
 pub same_blocks : (me : Member) (d : Datagram) (k : Knowledge) (b : RawBody)
     → ((round index : ℕ) (block : Bor (List ℕ)) → b ≡ raw.Block round index block → ⊥)
     → ((round : ℕ) (kind : XKind) (role : Role) (key : Bor (List ℕ)) → b ≡ raw.Key round kind role key → ⊥)

@@ -4,7 +4,7 @@ use Rattle.std.specs.Option.{option_or}
 use Rattle.bar_window.specs.declared.update.UpdateId.{UpdateId}
 use Rattle.bar_terms.specs.declared.items.Item.{Item}
 use Rattle.bar_terms.specs.Table.{Table}
-use Rattle.bar_peer.specs.Opening.{block_in_item, block_in_items}
+use Rattle.bar_peer.specs.Code.Opening.{block_in_item, block_in_items}
 use Rattle.bar_bytes.proofs.Options.{or-none}
 
 pub or_or : {A : Type 0} (o p q : Option A) → option_or o (option_or p q) ≡ option_or (option_or o p) q
@@ -28,7 +28,7 @@ next_item table life now (item ∷ items) (block ∷ blocks) (suc k) d b u below
     ap (option_or (block_in_item table life now item block u)) (next_item table life now items blocks k d b u (omega (arith, below)) (omega (arith, within)))
     ∙ or_or (block_in_item table life now item block u) (block_in_items table life now (take k items) blocks u) _
 
--- an item more has its block after the others
+-- adding an item puts its block after the others
 pub items_more : (table : Table) (life now : ℕ) (items : List Item) (blocks : List (List ℕ)) (k : ℕ) (d : Item) (b : List ℕ) (u : UpdateId)
     → k < length items → k < length blocks
     → block_in_items table life now (take (k + 1) items) blocks u

@@ -1,4 +1,4 @@
--- What is known after a KEY was heard.
+-- The knowledge after a KEY was heard.
 use Rattle.std.proofs.Common.{◌≡◌, ◌≢◌, ◌∙◌, ◌==◌, ℕ, ◌≤◌, true, List, [], Option, Some, None, is_some, sym, ap, refl, subst, option_map, option_and_then, if◌then◌else◌}
 use Rattle.std.specs.Option.{option_or}
 use Rattle.std.proofs.lemmas.Bool.{and_parts, eqb-true, eq-eqb, ne_eqb, false≢true}
@@ -9,7 +9,7 @@ use Rattle.bar_window.specs.declared.exchange.Role.TheVariants.{Initiator, Respo
 use Rattle.bar_window.specs.declared.exchange.XKind.{XKind}
 use Rattle.bar_window.specs.declared.update.UpdateId.{UpdateId}
 use Rattle.bar_terms.specs.declared.items.Item.{Item}
-use Rattle.bar_terms.specs.Room.{TableWithRoom}
+use Rattle.bar_terms.specs.Code.Room.{TableWithRoom}
 use Rattle.bar_terms.specs.Table.{Table, digests_of}
 use Rattle.bar_terms.specs.Terms.{can_promise}
 use Rattle.bar_wire.specs.Bodies.{briefcase_in, digests_in}
@@ -27,14 +27,14 @@ use Rattle.bar_rules.specs.Peer.Holdings.{case_in}
 use Rattle.bar_rules.specs.Peer.Knowledge.{Knowledge, this_round, case_heard_of, learned, with_heard}
 use Rattle.bar_laws.specs.Soundness.{IsSound, IsTheirs}
 use Rattle.bar_store.specs.declared.store.Store.{Store}
-use Rattle.bar_store.specs.Held.{block_in, HasSame}
-use Rattle.bar_store.specs.Holds.{Holds}
-use Rattle.bar_peer.specs.Opening.{IsNear, AreGiven, block_given}
+use Rattle.bar_store.specs.Code.Held.{block_in, HasSame}
+use Rattle.bar_store.specs.Code.Holds.{Holds}
+use Rattle.bar_peer.specs.Code.Opening.{IsNear, AreGiven, block_given}
 use Rattle.bar_peer.proofs.Hearing.Items.{none_if}
 use Rattle.bar_peer.proofs.Admitting.Rows.{in_time}
 use Rattle.bar_bytes.proofs.Options.{or-none}
 
--- ---- what an admitted datagram meets
+-- ---- conditions that an admitted datagram meets
 
 pub admitted_for : (me : Member) (k : Knowledge) (d : Datagram) → is_admitted me k d ≡ true → is_for me d.message ≡ true
 unfolding is_admitted
@@ -54,7 +54,7 @@ their_role me round kind Initiator from to apart mine =
 their_role me round kind Responder from to apart mine =
     ap (λ b. other_role (if b then Initiator else Responder)) (sym (eq-eqb to me.party mine))
 
--- The side is the other one, of an exchange that may still be asked about.
+-- The side is the partner's, and the exchange may still be asked about.
 pub record IsTheirPlace (me : Member) (k : Knowledge) (p : Place) : Type 0 where
   pub role : p.role ≡ other_role (role_of me p.exchange)
   pub recent : IsRecent me k p.exchange.round
@@ -94,7 +94,7 @@ is_case (Key g) e = absurd (false≢true e)
 is_case (Evidence ds) e = absurd (false≢true e)
 is_case (Evict r ps) e = absurd (false≢true e)
 
--- what is found of each briefcase that may be opened is found of the one that was heard
+-- what holds of every briefcase that may be opened holds of the one that was heard
 pub heard_given : (me : Member) (k : Knowledge) (p : Place) (d : Datagram) (table : Table) (key : List ℕ) (items : List Item) (blocks : List (List ℕ))
     → IsSound me k → IsTheirPlace me k p → Some d ≡ k.heard kinds.Case p.exchange p.role → IsNear table (this_round k)
     → ((c : Briefcase) (now : ℕ) → d.message.body ≡ Case c → can_promise me.session.cap c.terms ≡ true → counts_ok me.session c ≡ true
@@ -114,11 +114,11 @@ pub listed : (o : Option Datagram) → is_some (option_and_then (λ d. digests_i
 listed (Some d) e = refl
 listed None e = absurd (false≢true e)
 
--- the lists that a store holds are of rounds up to the next one
+-- a store holds lists only of rounds up to the next one
 pub table_near : (me : Member) (k : Knowledge) (s : Store) → IsSound me k → Holds me k s → IsNear (digests_of s.table.lists) (this_round k)
 table_near me k s sound h round e = sound.near round (listed (k.manifest round) (subst (λ o. is_some o ≡ true) (sym (h.table round)) e))
 
--- ---- what is held then
+-- ---- the blocks that are held after it
 
 pub key_learned : (me : Member) (k : Knowledge) (d : Datagram) (g : KeyGiven) (p : Place) (old new : Store) → Holds me k old → HasSame old new
     → d.message.body ≡ Key g → place_of d.message ≡ Some p
@@ -147,7 +147,7 @@ no_place d g body none =
     in
     cc
 
--- where no briefcase was heard, no block is given
+-- if no briefcase was heard, no block is given
 pub unheard_given : (me : Member) (k : Knowledge) (p : Place) (table : Table) (key : List ℕ) (blocks : List (List ℕ))
     → None ≡ k.heard kinds.Case p.exchange p.role
     → AreGiven me.session (this_round k) table p.exchange key (case_heard_of k p.exchange p.role) [] blocks
@@ -155,7 +155,7 @@ unheard_given me k p table key blocks none u =
     none_if (is_alive me.session u.round (this_round k))
     ∙ (λ i. block_given me.session (this_round k) table p.exchange u key (case_in (none i)))
 
--- where none is given, what was held is what is held
+-- if no block is given, the store is unchanged
 pub nothing_learned : (me : Member) (k : Knowledge) (d : Datagram) (g : KeyGiven) (p : Place) (s : Store) (blocks : List (List ℕ)) → Holds me k s
     → d.message.body ≡ Key g → place_of d.message ≡ Some p
     → AreGiven me.session (this_round k) (digests_of s.table.lists) p.exchange g.key (case_heard_of k p.exchange p.role) [] blocks

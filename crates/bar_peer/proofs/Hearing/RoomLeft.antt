@@ -1,4 +1,4 @@
--- Where an entry of a log makes an exchange kept, a room was left for it.
+-- If an entry of a log makes an exchange kept, there was room for it.
 use Rattle.std.proofs.Common.{◌≡◌, ◌∙◌, ℕ, zero, suc, ◌<◌, Bool, true, false, is_some, List, [], ◌∷◌, Option, Some, None, refl, sym, ap, arith}
 use Rattle.std.specs.Prelude.{option_and_then}
 use Rattle.std.specs.List.{list_all}
@@ -14,7 +14,7 @@ use Rattle.bar_rules.specs.Peer.Log.{Log, Entry}
 use Rattle.bar_rules.specs.Peer.Rules.{IsObedient}
 use Rattle.bar_laws.specs.Rooms.{Own, asking_at, asking_of, is_kept, is_recent, LogLeavesRoom}
 use Rattle.bar_laws.specs.Soundness.{IsSound, LogIsSound}
-use Rattle.bar_exchange.specs.Keeping.{HasRoomLeft, is_asked_by, is_remembered}
+use Rattle.bar_exchange.specs.Code.Keeping.{HasRoomLeft, is_asked_by, is_remembered}
 use Rattle.bar_bytes.proofs.Options.{some-then, some-mapped}
 
 each_more : {X : Type 0} (p q : X → Bool) → ((x : X) → p x ≡ true → q x ≡ true) → (xs : List X) → list_all p xs ≡ true
@@ -42,7 +42,7 @@ recent_by me k s x h =
     let parts = and_parts _ (is_asked_by (role_of me x) k x) h in
     and_from _ _ parts.0 (some-mapped _ (asking_of k x (role_of me x)) ∙ asking_by me k s x (role_of me x) parts.1)
 
--- of an entry that is allowed and by which an exchange comes to be kept
+-- this holds for every allowed entry after which the exchange is kept and before which it wasn't
 pub room-left : LogLeavesRoom → LogIsSound → (me : Member) (log : Log) (e : Entry) → IsObedient me (e ∷ log) → (x : Exchange)
     → is_kept me (known me log) x ≡ false → is_kept me (known me (e ∷ log)) x ≡ true → HasRoomLeft me (known me log)
 room-left leaves sound me log e obeys x before after xs distinct all =
@@ -50,7 +50,7 @@ room-left leaves sound me log e obeys x before after xs distinct all =
     leaves me log e obeys x before after xs distinct
     (each_more (is_remembered me (known me log)) (is_recent me (known me log)) (recent_by me (known me log) s) xs all)
 
--- whether an exchange is kept that this member asks for
+-- an exchange that this member may ask for is kept if and only if its request was said
 pub kept_asked : (me : Member) (k : Knowledge) (x : Exchange) → role_of me x ≡ Initiator
     → is_kept me k x ≡ has_said_of k (request_kind x.kind) x (role_of me x)
 kept_asked me k x own =

@@ -1,4 +1,4 @@
--- What an order adds to what is known: what was sent for earlier orders is sent for them still.
+-- What an order adds to the knowledge: earlier orders still send the same datagrams.
 use Rattle.std.proofs.Common.{◌≡◌, ◌∙◌, ◌+◌, ℕ, List, [], ◌∷◌, Option, Some, None, map, refl, ap, arith}
 use Rattle.std.specs.Prelude.{option_map}
 use Rattle.std.specs.List.{AllByRecursion}
@@ -22,7 +22,7 @@ use Rattle.bar_exchange.specs.declared.say.Say.{Say}
 use Rattle.bar_laws.proofs.Logs.{option_or-some}
 use Rattle.bar_peer.specs.declared.order.Order.{Order as Queued}
 use Rattle.bar_peer.specs.declared.order.Order.TheVariants as queued
-use Rattle.bar_peer.specs.Sending.{send_now, order_now, report_of, IsTimely, IsOrderTimely, Answers, MaySayNow}
+use Rattle.bar_peer.specs.Code.Sending.{send_now, order_now, report_of, IsTimely, IsOrderTimely, Answers, MaySayNow}
 use Rattle.bar_bytes.proofs.Options.{or-none}
 
 -- ---- the log after an order
@@ -37,7 +37,7 @@ state_if_sent : (P : Log → Type 0) (me : Member) (out : Out) (to : ℕ) (body 
 state_if_sent P me out to None same = same
 state_if_sent P me out to (Some body) same = same
 
--- it is as before, or has one message more
+-- it is the log before the order, or has one more message
 pub state_after_order : (P : Log → Type 0) (me : Member) (out : Out) (o : Order) → P out.state → ((d : Datagram) → P (Said d ∷ out.state))
     → P (perform me out o).state
 state_after_order P me out (Ask x) same more =
@@ -54,9 +54,9 @@ state_after_order P me out (Reveal x) same more = state_if_sent P me out (partne
 state_after_order P me out (AskKey x) same more = same
 state_after_order P me out (Report q) same more = state_if_sent P me out 0 _ same
 
--- ---- what is known then
+-- ---- the knowledge after an order
 
--- The round is the same, as is the evidence, and what was said or revealed stays.
+-- The round and the evidence are the same, and all that was said or revealed is still known.
 pub record Grows (old new : Knowledge) : Type 0 where
   pub time : this_round new ≡ this_round old
   pub said : (kind : Kind) (x : Exchange) (role : Role) (d : Datagram) → old.said kind x role ≡ Some d → new.said kind x role ≡ Some d
@@ -134,7 +134,7 @@ all_timely_still me old new g [] all = tt
 all_timely_still me old new g (order ∷ list) all =
     (order_timely_still me old new g order all.0, all_timely_still me old new g list all.1)
 
--- ---- an order of this member's is so still
+-- ---- an order of this member stays one
 
 answers_still : (me : Member) (old new : Knowledge) → Grows old new → (kind : Kind) (x : Exchange) → Answers me old kind x
     → Answers me new kind x

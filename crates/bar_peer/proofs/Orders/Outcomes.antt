@@ -1,4 +1,4 @@
--- The memory and the orders stand for what was said and sent, after each reply.
+-- After each reply, the memory and the orders represent what was said and sent.
 use Rattle.std.proofs.Common.{◌≡◌, ◌∙◌, ◌≤◌, ◌+◌, ℕ, true, false, List, [], ◌∷◌, ◌++◌, Some, length, sym, subst, arith}
 use Rattle.std.specs.List.{AllByRecursion}
 use Rattle.std.proofs.lemmas.List.{map-append}
@@ -11,18 +11,18 @@ use Rattle.bar_rules.specs.Peer.Run.{Out, perform, perform_all}
 use Rattle.bar_exchange.specs.declared.say.Say.{Say}
 use Rattle.bar_exchange.specs.declared.says.Says.{Says}
 use Rattle.bar_exchange.specs.declared.says.Says.TheVariants.{Two}
-use Rattle.bar_exchange.specs.Says.{order_by, orders_of_reply, says_in}
+use Rattle.bar_exchange.specs.Code.Says.{order_by, orders_of_reply, says_in}
 use Rattle.bar_peer.specs.declared.credentials.Credentials.{Credentials}
 use Rattle.bar_peer.specs.declared.memory.Memory.{Memory}
 use Rattle.bar_peer.specs.declared.order.Order.{Order}
 use Rattle.bar_peer.specs.declared.order.Order.TheVariants as queued
-use Rattle.bar_peer.specs.Orders.{Orders}
-use Rattle.bar_peer.specs.Memory.{member_of}
-use Rattle.bar_peer.specs.Sending.{order_now, IsOrderTimely, MaySayNow, AreFor, IsCarriedOut, HasOutcome}
+use Rattle.bar_peer.specs.Code.Orders.{Orders}
+use Rattle.bar_peer.specs.Code.Memory.{member_of}
+use Rattle.bar_peer.specs.Code.Sending.{order_now, IsOrderTimely, MaySayNow, AreFor, IsCarriedOut, HasOutcome}
 use Rattle.bar_laws.proofs.Fitting.{perform-before}
 use Rattle.bar_peer.proofs.Orders.Growth.{Grows, grows, sends_stay, timely_still, all_timely_still, own_still}
 
--- orders are of what was sent still, where something more was said
+-- if more is said, the orders are still those of the sent datagrams
 pub orders_stay : (me : Member) (old new : Knowledge) (list : List Order) (sends : List (ℕ × Datagram)) → Grows old new
     → AreFor me old list sends → AreFor me new list sends
 orders_stay me old new list sends g h =
@@ -41,7 +41,7 @@ orders_pushed me k list sends order send h is timely = record {
 
 -- ---- one reply
 
--- An order is carried out, and put behind the others.
+-- An order is carried out, and its datagram is appended to the queue.
 abbrev pub Replies : Credentials → Memory → Orders → Memory → Orders → Say → Type 0
 Replies who old orders new pushed say =
     (out : Out) → IsObedient (member_of who) (perform (member_of who) out (order_by say.kind say.x)).state → HasOutcome out old orders
@@ -95,7 +95,7 @@ stands_unsent old new orders say out same stands carried = record {
 
 -- ---- two replies
 
--- where the second one is carried out after the first
+-- if the second reply is carried out after the first, both are
 pub two_stand : (old mid new : Memory) (orders put pushed : Orders) (first second : Say) (says : Says) (out : Out) → says ≡ Two first second
     → mid.who ≡ old.who → put.room ≡ orders.room → length put.list.items ≤ length orders.list.items + 1
     → Replies old.who old orders mid put first → Replies mid.who mid put new pushed second

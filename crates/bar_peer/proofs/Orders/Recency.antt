@@ -1,4 +1,4 @@
--- What may be sent again is of an exchange that may still be asked about.
+-- The exchange of a message that may be sent again may still be asked about.
 use Rattle.std.proofs.Common.{ℕ, ◌≤◌, arith}
 use Rattle.bar_wire.specs.declared.kind.Kind.{Kind}
 use Rattle.bar_wire.specs.declared.kind.Kind.TheVariants as kinds

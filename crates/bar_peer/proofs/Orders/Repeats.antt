@@ -1,4 +1,4 @@
--- What an order does by its kind, where there is something to send again, and where there is not.
+-- The effect of an order by its kind, if there is something to send again and if there isn't.
 use Rattle.std.proofs.Common.{◌≡◌, ◌∙◌, ℕ, true, false, is_some, List, Option, Some, None, refl, sym, ap}
 use Rattle.std.specs.Prelude.{option_map}
 use Rattle.std.proofs.lemmas.Bool.{false≢true}
@@ -15,13 +15,13 @@ use Rattle.bar_rules.specs.Peer.Machine.{message_to, send_if}
 use Rattle.bar_rules.specs.Peer.Orders.{answer_body, case_body, key_body}
 use Rattle.bar_rules.specs.Peer.Run.{Out, say, say_or_repeat, perform}
 use Rattle.bar_rules.specs.Peer.Terms.{terms_of}
-use Rattle.bar_exchange.specs.Says.{order_by}
+use Rattle.bar_exchange.specs.Code.Says.{order_by}
 use Rattle.bar_peer.specs.declared.memory.Memory.{Memory}
-use Rattle.bar_peer.specs.Memory.{Represents, member_of}
-use Rattle.bar_peer.specs.Sending.{send_now, Answers, IsCarriedOut}
+use Rattle.bar_peer.specs.Code.Memory.{Represents, member_of}
+use Rattle.bar_peer.specs.Code.Sending.{send_now, Answers, IsCarriedOut}
 use Rattle.bar_peer.proofs.Orders.CarryingOut.{say_of, carried_again, carried_not, said_again, unsaid}
 
--- what the initiator commits to, in a DIVULGE
+-- the DIVULGE with what the initiator commits to
 abbrev divulged : Member → Exchange → Option (List ℕ × List UpdateId) → Option (ℕ × Datagram)
 divulged me x o =
     option_map (λ d. (partner_in me x, d))
@@ -47,7 +47,7 @@ revealed_again x out m (Some a) tells e has =
     (ap (send_divulged me x out) e)
     (ap (divulged me x) e)
 
--- what there is to send is sent
+-- if there is something to send, it is sent
 pub repeated : (kind : Kind) (x : Exchange) (out : Out) (m : Memory) → Represents out.state m
     → Answers (member_of m.who) (known (member_of m.who) out.state) kind x
     → is_some (send_now (member_of m.who) (known (member_of m.who) out.state) (say_of kind x)) ≡ true
@@ -82,7 +82,7 @@ repeated kinds.Evict x out m tells answers has = said_again kinds.Evict x None o
 
 -- ---- nothing to send again, and nothing new
 
--- what isn't said by a reply
+-- the kinds that a reply doesn't say for the first time
 abbrev pub IsOther : Kind → Type 0
 IsOther kind = (kind ≡ kinds.Response → ⊥) × (kind ≡ kinds.Reply → ⊥) × (kind ≡ kinds.Case → ⊥) × (kind ≡ kinds.Key → ⊥)
 
@@ -97,7 +97,7 @@ not_revealed me x out (Some a) e lacks =
     let has : is_some (divulged me x ((known me out.state).revealed x)) ≡ true = ap (λ o. is_some (divulged me x o)) e in
     absurd (false≢true (sym lacks ∙ has))
 
--- nothing is said, where there is nothing to send again
+-- if there is nothing to send again, nothing is said
 pub nothing_said : (kind : Kind) (x : Exchange) (out : Out) (m : Memory) → IsOther kind → Represents out.state m
     → is_some (send_now (member_of m.who) (known (member_of m.who) out.state) (say_of kind x)) ≡ false
     → IsCarriedOut (member_of m.who) (say_of kind x) out (perform (member_of m.who) out (order_by kind x)) false m

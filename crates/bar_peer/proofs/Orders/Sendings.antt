@@ -1,4 +1,4 @@
--- What an order sends, and what orders send that are kept.
+-- What an order sends, and what queued orders send.
 use Rattle.std.proofs.Common.{◌≡◌, ℕ, ◌∙◌, true, false, List, [], ◌∷◌, ◌++◌, Option, Some, None, is_some, sym, refl, ap, subst}
 use Rattle.std.specs.Prelude.{option_map}
 use Rattle.bar_window.specs.declared.update.UpdateId.{UpdateId}
@@ -15,15 +15,15 @@ use Rattle.bar_rules.specs.Peer.Log.{Log}
 use Rattle.bar_rules.specs.Peer.Machine.{message_to, send_if}
 use Rattle.bar_rules.specs.Peer.Orders.{Report}
 use Rattle.bar_rules.specs.Peer.Run.{Out, perform, say_or_repeat}
-use Rattle.bar_exchange.specs.Says.{order_again}
+use Rattle.bar_exchange.specs.Code.Says.{order_again}
 use Rattle.bar_peer.specs.declared.memory.Memory.{Memory}
 use Rattle.bar_peer.specs.declared.order.Order.{Order as Queued}
-use Rattle.bar_peer.specs.Orders.{Orders}
-use Rattle.bar_peer.specs.Memory.{member_of, Represents}
-use Rattle.bar_peer.specs.Sending.{send_now, report_of, report_now, order_now, IsOrderTimely, AreFor, HasOutcome}
+use Rattle.bar_peer.specs.Code.Orders.{Orders}
+use Rattle.bar_peer.specs.Code.Memory.{member_of, Represents}
+use Rattle.bar_peer.specs.Code.Sending.{send_now, report_of, report_now, order_now, IsOrderTimely, AreFor, HasOutcome}
 use Rattle.bar_peer.proofs.Orders.Outcomes.{orders_pushed}
 
--- an outcome with one datagram more, where there is one
+-- an outcome with one more datagram, if there is one
 abbrev pub sent : Out → Option (ℕ × Datagram) → Out
 sent out None = out
 sent out (Some send) = sending out send.0 send.1
@@ -44,7 +44,7 @@ revealed_again : (me : Member) (out : Out) (x : Exchange) (o : Option (List ℕ 
 revealed_again me out x None = refl
 revealed_again me out x (Some a) = refl
 
--- an order of a tick sends what is sent now, where there is such
+-- an order of a tick sends the datagram that is available now, if there is one
 pub sent_again : (me : Member) (out : Out) (kind : Kind) (x : Exchange)
     → perform me out (order_again kind x) ≡ sent out (send_now me (known me out.state) (record { kind = kind; x = x }))
 sent_again me out kinds.Divulge x = revealed_again me out x ((known me out.state).revealed x)
@@ -60,7 +60,7 @@ sent_again me out kinds.Key x = resent me out x ((known me out.state).said kinds
 sent_again me out kinds.Evidence x = resent me out x ((known me out.state).said kinds.Evidence x (role_of me x))
 sent_again me out kinds.Evict x = resent me out x ((known me out.state).said kinds.Evict x (role_of me x))
 
--- so does a report
+-- so does the order for a report
 reported : (me : Member) (out : Out) (o : Option (List (List ℕ)))
     → send_if me out 0 (option_map Evidence o) ≡ sent out (option_map (λ evidence. (0, report_of me evidence)) o)
 reported me out None = refl
@@ -70,7 +70,7 @@ pub sent_report : (me : Member) (out : Out) (party : ℕ)
     → perform me out (Report party) ≡ sent out (report_now me (known me out.state) party)
 sent_report me out party = reported me out ((known me out.state).evidence party)
 
--- it changes no log
+-- it doesn't change the log
 pub state_again : (me : Member) (out : Out) (kind : Kind) (x : Exchange) → (perform me out (order_again kind x)).state ≡ out.state
 state_again me out kind x =
     ap (λ (o : Out). o.state) (sent_again me out kind x)
@@ -78,9 +78,9 @@ state_again me out kind x =
 
 -- ---- lists of orders
 
--- ---- orders that are kept
+-- ---- queued orders
 
--- one order more, where there is a datagram
+-- the queue with one more order, if there is a datagram
 abbrev pub with_order : Queued → Option (ℕ × Datagram) → List Queued → List Queued
 with_order order None list = list
 with_order order (Some send) list = list ++ order ∷ []
@@ -108,7 +108,7 @@ stands_with m o p out order (Some send) is timely h e = record {
       (orders_pushed (member_of m.who) (known (member_of m.who) out.state) o.list.items out.sends order send h.orders is timely);
 }
 
--- nothing is sent yet
+-- nothing was sent yet
 pub none_stand : (log : Log) (m : Memory) (o : Orders) → Represents log m → o.list.items ≡ [] → HasOutcome (begun log) m o
 none_stand log m o h none = record {
   tells = h;

@@ -1,4 +1,4 @@
--- Carrying out orders plays nothing, and changes nothing of what a tick plays.
+-- Carrying out orders plays nothing, and doesn't change what a tick plays.
 use Rattle.std.proofs.Common.{◌≡◌, ◌∙◌, ℕ, Bool, true, false, List, [], ◌∷◌, Option, Some, None, refl, ap}
 use Rattle.std.specs.Prelude.{option_map, if◌then◌else◌}
 use Rattle.bar_window.specs.declared.exchange.Exchange.{Exchange}
@@ -22,7 +22,7 @@ use Rattle.bar_rules.specs.Peer.Terms.{terms_of}
 use Rattle.bar_rules.specs.Peer.Ticks.{contents_at_tick, contents_of_round}
 use Rattle.bar_laws.specs.Knowing.{EntryIsLearned}
 
--- what a tick plays is the same, and as much was played
+-- a tick would play the same, and the same was played so far
 pub record PlaysAlike (me : Member) (out after : Out) : Type 0 where
   pub now : contents_at_tick me (known me after.state) ≡ contents_at_tick me (known me out.state)
   pub done : after.contents ≡ out.contents

@@ -1,4 +1,4 @@
--- Orders that put nothing into a log.
+-- Orders that add nothing to a log.
 use Rattle.std.proofs.Common.{◌≡◌, ◌∙◌, List, [], ◌∷◌, Option, Some, None, not, refl}
 use Rattle.std.specs.Prelude.{option_map}
 use Rattle.std.specs.List.{AllByRecursion, flat_map}
@@ -12,7 +12,7 @@ use Rattle.bar_rules.specs.Peer.Run.{Out, perform, perform_all, say_or_repeat}
 use Rattle.bar_rules.specs.Peer.Ticks.{again}
 use Rattle.bar_laws.proofs.Logs.{again-all, all-flat, when-all}
 use Rattle.bar_laws.proofs.Runs.{send_if-log}
-use Rattle.bar_peer.specs.Ticking.{orders_of_open}
+use Rattle.bar_peer.specs.Code.Ticking.{orders_of_open}
 
 abbrev IsUnlogged : Order → Type 0
 IsUnlogged (Resend kind x) = Unit {0}
@@ -45,7 +45,7 @@ opens_unlogged me k xs =
     all-flat IsUnlogged (orders_of_open me k) xs
     (λ x. when-all IsUnlogged (not (k.is_announced (partner_in me x))) (again me k x) (λ _. again-all IsUnlogged me k x tt (λ _. (tt, tt)) (λ _. tt)))
 
--- what is sent again for exchanges changes no log
+-- messages that are sent again for exchanges don't change the log
 pub opens_state : (me : Member) (k : Knowledge) (out : Out) (xs : List Exchange)
     → (perform_all me out (flat_map (orders_of_open me k) xs)).state ≡ out.state
 opens_state me k out xs = all_unlogged_state me out (flat_map (orders_of_open me k) xs) (opens_unlogged me k xs)

@@ -1,4 +1,4 @@
--- What a peer does with a datagram, once it is read.
+-- How a peer answers a datagram, once it is decoded.
 use Rattle.std.proofs.Common.{◌≡◌, ◌≤◌, ◌+◌, ℕ, ◌∙◌, Bool, true, false, List, [], ◌∷◌, length, Option, Some, None, refl, sym, ap, subst, arith, inl, inr}
 use Rattle.std.specs.Prelude.{nat_le, IfSome, if◌then◌else◌}
 use Rattle.std.specs.List.{AllByRecursion}
@@ -10,7 +10,7 @@ use Rattle.bar_wire.specs.Datagram.{Datagram, Body, Manifest, Block, Request, Re
 use Rattle.bar_wire.specs.declared.kind.Kind.{Kind}
 use Rattle.bar_wire.specs.Grammar.{SpellsDatagram, IsDatagram, MaySend}
 use Rattle.bar_wire.specs.declared.shape.Shape.{Shape}
-use Rattle.bar_balanced.specs.Balanced.{AreSpelled}
+use Rattle.bar_balanced.specs.Code.Balanced.{AreSpelled}
 use Rattle.bar_session.specs.Time.{round_after}
 use Rattle.bar_rules.specs.Member.{Member, IsMember}
 use Rattle.bar_rules.specs.Peer.Admission.{is_admitted, is_for, is_row_met}
@@ -23,12 +23,12 @@ use Rattle.bar_rules.specs.Peer.Rules.{IsObedient}
 use Rattle.bar_rules.specs.Peer.Run.{Out, perform_all, answered_to, answer_repeat}
 use Rattle.bar_rules.specs.Runs.{begun}
 use Rattle.bar_exchange.specs.declared.says.Says.{Says}
-use Rattle.bar_exchange.specs.Says.{orders_of_reply, says_in, AreFitting}
+use Rattle.bar_exchange.specs.Code.Says.{orders_of_reply, says_in, AreFitting}
 use Rattle.bar_peer.specs.declared.memory.Memory.{Memory}
-use Rattle.bar_peer.specs.Orders.{Orders}
-use Rattle.bar_peer.specs.Memory.{Represents, IsMemoryOf, member_of}
-use Rattle.bar_peer.specs.Repeats.{IsInTime, is_of_exchange}
-use Rattle.bar_peer.specs.Sending.{HasOutcome, MaySayNow}
+use Rattle.bar_peer.specs.Code.Orders.{Orders}
+use Rattle.bar_peer.specs.Code.Memory.{Represents, IsMemoryOf, member_of}
+use Rattle.bar_peer.specs.Code.Repeats.{IsInTime, is_of_exchange}
+use Rattle.bar_peer.specs.Code.Sending.{HasOutcome, MaySayNow}
 use Rattle.bar_peer.proofs.Hearing.Keys.{admitted_row, admitted_for}
 use Rattle.bar_peer.proofs.Admitting.Rows.{in_time as row_in_time}
 use Rattle.bar_peer.proofs.Admitting.Namesakes.{SpellOne}
@@ -37,13 +37,13 @@ use Rattle.bar_laws.proofs.Fitting.{perform_all-before}
 use Rattle.bar_peer.proofs.Orders.Sendings.{none_stand}
 use Rattle.bar_peer.proofs.Replying.Sayable.{IsDue, says-due, orders-due, row-deadline}
 
--- ---- obedience before
+-- ---- the log was obedient before
 
 repeat-before : (me : Member) (log : Log) (o : Option Datagram) → IsObedient me (answer_repeat me log o).state → IsObedient me log
 repeat-before me log None h = h
 repeat-before me log (Some d) h = perform_all-before me (reply_orders me (known me log) false d) (begun log) h
 
--- what answers a datagram that is admitted or not
+-- the outcome for a datagram, depending on whether it is admitted
 abbrev answered-by : Member → Log → Datagram → Bool → Out
 answered-by me log d b =
     if b then perform_all me (begun (Heard d ∷ log)) (reply_orders me (known me (Heard d ∷ log)) true d) else answer_repeat me log (repeated me (known me log) d)
@@ -65,7 +65,7 @@ answered-again me log d e = ap (answered-by me log d) e
 
 -- ---- replies carried out
 
--- what carrying out replies does
+-- the effect of carrying out replies
 abbrev pub CarriesOut : Memory → Orders → Says → Memory → Orders → Type 0
 CarriesOut m o says n p =
     (out : Out) → IsObedient (member_of m.who) (perform_all (member_of m.who) out (orders_of_reply says)).state → HasOutcome out m o
@@ -87,7 +87,7 @@ replied log m n o p says os life fits does same tells empty room due obeys =
 
 -- ---- time
 
--- a datagram that is heard takes no time
+-- hearing a datagram doesn't change the time
 pub same-round : (me : Member) (log : Log) (d : Datagram) → this_round (known me (Heard d ∷ log)) ≡ this_round (known me log)
 same-round me log d = ap round_after (same-ticks (ticks log))
   where
@@ -98,7 +98,7 @@ in-time-later : (me : Member) (log : Log) (d : Datagram) (kind : Kind) (round : 
     → is_in_time me.session (known me (Heard d ∷ log)) kind round ≡ true
 in-time-later me log d kind round e = ap (λ (now : ℕ). nat_le now (round + deadline me.session kind)) (same-round me log d) ∙ e
 
--- of an exchange that may be asked about before it, and so after it
+-- if its exchange may be asked about before it is heard, so it may afterwards
 in-time-kept : (me : Member) (log : Log) (d : Datagram) → IsInTime me (known me log) d.message → IsInTime me (known me (Heard d ∷ log)) d.message
 in-time-kept me log d h = go (exchange_of d.message) h
   where
@@ -106,7 +106,7 @@ in-time-kept me log d h = go (exchange_of d.message) h
     go None h = tt
     go (Some x) h = subst (λ (now : ℕ). now ≤ x.round + me.session.shape.life) (sym (same-round me log d)) h
 
--- who receives a datagram of an exchange
+-- the receiver of a datagram of an exchange is this member
 receiver : (me : Member) (from to : ℕ) (b : Body) → is_of_exchange b ≡ true → is_for me (record { from = from; to = to; body = b }) ≡ true → to ≡ me.party
 receiver me from to (Request r s c) x e = eqb-true _ _ e
 receiver me from to (Response r hb) x e = eqb-true _ _ e
@@ -121,7 +121,7 @@ receiver me from to (Block u b) x e = absurd (false≢true x)
 receiver me from to (Evidence ds) x e = absurd (false≢true x)
 receiver me from to (Evict r ps) x e = absurd (false≢true x)
 
--- the parties of a datagram of an exchange are two
+-- the sender and the receiver of a datagram of an exchange differ
 two-parties : (s : Shape) (from to : ℕ) (b : Body) → is_of_exchange b ≡ true → MaySend s (kind_of b) from to → from ≡ to → ⊥
 two-parties s from to (Request r seed c) x may = may.2
 two-parties s from to (Response r hb) x may = may.2
@@ -143,13 +143,13 @@ apart s d party fits mine x same = two-parties s d.message.from d.message.to d.m
 pub received : (me : Member) (k : Knowledge) (d : Datagram) → is_admitted me k d ≡ true → is_of_exchange d.message.body ≡ true → d.message.to ≡ me.party
 received me k d admitted x = receiver me d.message.from d.message.to d.message.body x (admitted_for me k d admitted)
 
--- what says tell of the replies to a datagram
+-- the messages to be said are the replies to the datagram
 abbrev pub Tell : Memory → Datagram → Bool → Says → Type 0
 Tell m d is_new says =
     (k : Knowledge) → IsMemoryOf (member_of m.who) k m → (is_new ≡ true → IsInTime (member_of m.who) k d.message)
     → orders_of_reply says ≡ reply_orders (member_of m.who) k is_new d
 
--- a datagram that is admitted is answered
+-- an admitted datagram is answered
 pub new-replied : (log : Log) (d : Datagram) (before m n : Memory) (o p : Orders) (says : Says) → IsMember (member_of before.who) → AreFitting says
     → (is_of_exchange d.message.body ≡ true → d.message.from ≡ before.who.secrets.party → ⊥) → m.who ≡ before.who
     → is_admitted (member_of before.who) (known (member_of before.who) log) d ≡ true → Represents (Heard d ∷ log) m → Tell m d true says
@@ -179,7 +179,7 @@ new-replied log d before m n o p says is_member fits other who admitted tells te
 
 -- ---- repeats
 
--- an exchange that can't be asked about any more: nothing is answered to a datagram of it
+-- if its exchange can't be asked about any more, a datagram isn't answered
 pub stale-repeat : (me : Member) (log : Log) (d : Datagram) (bytes : List ℕ) → SpellOne → AreSpelled me (known me log) → SpellsDatagram me.session.shape d bytes
     → 2 ≤ me.session.shape.life → nat_le (this_round (known me log)) (round_of d.message.body + me.session.shape.life) ≡ false
     → answer_repeat me log (repeated me (known me log) d) ≡ begun log
@@ -205,7 +205,7 @@ again-replied log d m n o p says life fits mine tells tell does empty room obeys
     (orders-due me (known me log) false d.message.from d.message.to d.message.body mine life (λ n x. absurd (false≢true n)))
     obeys
 
--- what is repeated came to this member
+-- a repeated datagram is addressed to this member
 pub repeated-received : (me : Member) (k : Knowledge) (d : Datagram) → IsSound me k → repeated me k d ≡ Some d → is_of_exchange d.message.body ≡ true
     → d.message.to ≡ me.party
 repeated-received me k d sound e x = elim (cases_Bool (k.is_announced d.message.from)) [
@@ -234,7 +234,7 @@ repeated-received me k d sound e x = elim (cases_Bool (k.is_announced d.message.
 spelled-of : (me : Member) (k : Knowledge) → IsSound me k → AreSpelled me k
 spelled-of me k sound = record { spelled = sound.spelled }
 
--- nothing is answered to what is no repeat
+-- a datagram that isn't a repeat has no answer
 pub not-repeated : (me : Member) (log : Log) (d : Datagram) (bytes : List ℕ) → IsMember me → IsSound me (known me log) → SpellOne → SpellsDatagram me.session.shape d bytes
     → (IsInTime me (known me log) d.message → repeated me (known me log) d ≡ None) → answer_repeat me log (repeated me (known me log) d) ≡ begun log
 not-repeated me log d bytes is_member sound one spells unless = elim (cases_Bool (nat_le (this_round (known me log)) (round_of d.message.body + me.session.shape.life))) [
@@ -242,7 +242,7 @@ not-repeated me log d bytes is_member sound one spells unless = elim (cases_Bool
   | inr f ↦ stale-repeat me log d bytes one (spelled-of me (known me log) sound) spells is_member.session.shape.life_low f
 ]
 
--- what is told as a repeat is answered again, where it is in time; otherwise there is nothing to say
+-- if the code finds a repeat, it is answered again if it is in time; otherwise there is nothing to say
 pub repeat-answered : (log : Log) (d : Datagram) (m n : Memory) (o p : Orders) (says : Says) (bytes : List ℕ) → IsMember (member_of m.who)
     → IsSound (member_of m.who) (known (member_of m.who) log) → SpellOne → SpellsDatagram m.who.session.shape d bytes → AreFitting says → Tell m d false says
     → CarriesOut m o says n p → (IsInTime (member_of m.who) (known (member_of m.who) log) d.message → repeated (member_of m.who) (known (member_of m.who) log) d ≡ Some d)
@@ -270,7 +270,7 @@ repeat-answered log d m n o p says bytes is_member sound one spells fits tell do
     life : 2 ≤ me.session.shape.life
     life = is_member.session.shape.life_low
 
--- what is told as a repeat and is none is of an exchange that can't be asked about any more: there is nothing to say
+-- if the code finds a repeat and there is none, its exchange can't be asked about any more, and there is nothing to say
 pub nothing-changed : (log : Log) (d : Datagram) (m n : Memory) (says : Says) → IsMember (member_of m.who) → Tell m d false says
     → (orders_of_reply says ≡ [] → n ≡ m)
     → (IsInTime (member_of m.who) (known (member_of m.who) log) d.message → repeated (member_of m.who) (known (member_of m.who) log) d ≡ Some d)

@@ -1,4 +1,4 @@
--- What a reply says for the first time, by its kind.
+-- What a reply says for the first time, by kind.
 use Rattle.std.proofs.Common.{◌≡◌, ◌∙◌, ◌≤◌, ◌+◌, Bool, true, false, is_some, Option, Some, None, refl, sym, ap, subst}
 use Rattle.std.specs.Prelude.{option_map}
 use Rattle.bar_window.specs.declared.exchange.Exchange.{Exchange}
@@ -21,20 +21,20 @@ use Rattle.bar_rules.specs.Peer.Signing.{signed, MaySay}
 use Rattle.bar_rules.specs.Peer.Terms.{terms_of}
 use Rattle.bar_laws.specs.Knowing.{EntryIsLearned}
 use Rattle.bar_laws.proofs.Memory.{found-heard}
-use Rattle.bar_ledger.specs.Recalls.{Recalls}
-use Rattle.bar_exchange.specs.Keeping.{IsSaidNow}
-use Rattle.bar_exchange.specs.Says.{order_by}
+use Rattle.bar_ledger.specs.Code.Recalls.{Recalls}
+use Rattle.bar_exchange.specs.Code.Keeping.{IsSaidNow}
+use Rattle.bar_exchange.specs.Code.Says.{order_by}
 use Rattle.bar_peer.specs.declared.memory.Memory.{Memory}
-use Rattle.bar_peer.specs.Memory.{IsMemoryOf, member_of, HasOtherLedger}
-use Rattle.bar_peer.specs.Sending.{send_now, MaySayNow, IsCarriedOut}
+use Rattle.bar_peer.specs.Code.Memory.{IsMemoryOf, member_of, HasOtherLedger}
+use Rattle.bar_peer.specs.Code.Sending.{send_now, MaySayNow, IsCarriedOut}
 use Rattle.bar_peer.proofs.Orders.Recency.{recent_by_time}
 use Rattle.bar_peer.proofs.Orders.CarryingOut.{say_of, carried_not, carried_first, unsaid, placed, said_memory, kept_memory, IsToldAsSaid}
 
--- the datagram of a body, by what a log tells
+-- the signed datagram of a body, given the log
 abbrev pub signed_in : Member → Out → Exchange → Body → Datagram
 signed_in me out x body = signed me (known me out.state) (message_to me x body)
 
--- An order of a kind is carried out, where nothing of it was said, with an answer and another ledger.
+-- An order of a kind of which nothing was said is carried out, with a result and another ledger.
 abbrev pub CarriesOut : Memory → Memory → Exchange → Bool → Kind → Type 0
 CarriesOut old m x result kind =
     (out : Out) → is_some (send_now (member_of m.who) (known (member_of m.who) out.state) (say_of kind x)) ≡ false
@@ -47,22 +47,22 @@ pub at_kind : (old m : Memory) (x : Exchange) (result : Bool) (kind now : Kind) 
     → CarriesOut old m x result kind
 at_kind old m x result kind now is carries = subst (CarriesOut old m x result) (sym is) carries
 
--- where a datagram is said, the ledger recalls what is then known
+-- after a datagram is said, the ledger recalls the new knowledge
 abbrev pub Learns : Memory → Knowledge → Datagram → Type 0
 Learns m k d = Recalls (member_of m.who) (with_said (member_of m.who) d k) m.ledger
 
--- a new message of which nothing was said
+-- if nothing of its kind was said, a message is new
 pub said_new : (me : Member) (kind : Kind) (x : Exchange) (body : Option Body) (out new : Out) → new ≡ say me out kind x body
     → (known me out.state).said kind x (role_of me x) ≡ None → new ≡ say_new me out x body
 said_new me kind x body out new is none = is ∙ (λ i. say_or_repeat me out x (none i) body)
 
--- ---- what was allowed
+-- ---- obedience
 
 pub allowed : (me : Member) (x : Exchange) (body : Body) (out new : Out) → IsObedient me new.state → new ≡ say_new me out x (Some body)
     → MaySay me (known me out.state) (partner_in me x) body
 allowed me x body out new obeys is = (subst (λ (o : Out). IsObedient me o.state) is obeys).0.rule.rule
 
--- the message of a body stands on this member's side of the exchange
+-- the message of a body is on this member's side of the exchange
 pub says_now : (me : Member) (k : Knowledge) (x : Exchange) (body : Body) (kind : Kind) → kind_of body ≡ kind
     → place_of (message_to me x body) ≡ Some (record { exchange = x; role = role_of me x }) → k.said kind x (role_of me x) ≡ None
     → IsRecent me k x.round → IsSaidNow me k (signed me k (message_to me x body)) kind x
@@ -121,7 +121,7 @@ gives_response old m x learned same life teach out lacks obeys holds own =
     asked : has_heard_of k kinds.Request x Initiator ≡ true
     asked = (λ i. has_heard_of k kinds.Request ((sym place i).exchange) Initiator) ∙ (allowed me x body out _ obeys is).asked
 
--- a CASE has the complete terms, where they are known
+-- if the terms are complete, a CASE contains them
 pub gives_case : (old m : Memory) (x : Exchange) (result : Bool) → EntryIsLearned → HasOtherLedger old m → 2 ≤ m.who.session.shape.life
     → ((k : Knowledge) (d : Datagram) → IsMemoryOf (member_of m.who) k old → IsSaidNow (member_of m.who) k d kinds.Case x
     → is_some (terms_of (member_of m.who) k x) ≡ true → (result ≡ true) × Learns m k d)

@@ -6,7 +6,7 @@ use Rattle.bar_rules.specs.Member.{Member}
 use Rattle.bar_rules.specs.Peer.Knowledge.{Knowledge}
 use Rattle.bar_rules.specs.Peer.Replies.{orders_for}
 
--- what is of no exchange has no reply
+-- a datagram of no exchange has no reply
 pub no_orders : (me : Member) (k : Knowledge) (is_new : Bool) (from to : ℕ) (b : Body) → None ≡ option_map (place_by from to) (part_of b)
     → orders_for me k is_new from to b ≡ []
 no_orders me k is_new from to (Manifest r ds) e = refl

@@ -1,4 +1,4 @@
--- What a REPLY says for the first time, and where there is nothing to reply to.
+-- The REPLY that is said for the first time, and when there is none.
 use Rattle.std.proofs.Common.{◌≡◌, ◌∙◌, ◌≤◌, ◌+◌, Bool, true, false, is_some, List, length, Option, Some, None, refl, sym, ap, subst}
 use Rattle.std.specs.Prelude.{option_and_then, IfSome, nat_lt, if◌then◌else◌}
 use Rattle.std.specs.Bool.{then_some}
@@ -22,16 +22,16 @@ use Rattle.bar_rules.specs.Peer.Run.{say, say_new, perform}
 use Rattle.bar_rules.specs.Peer.Writing.{offer_of}
 use Rattle.bar_laws.specs.Knowing.{EntryIsLearned}
 use Rattle.bar_ledger.specs.declared.ledger.Ledger.{Ledger}
-use Rattle.bar_ledger.specs.Kept.{Kept}
-use Rattle.bar_ledger.specs.Lookups.{knows_offer, if_known, is_known_in}
-use Rattle.bar_ledger.specs.Lookups as lookups
-use Rattle.bar_ledger.specs.Memory.{find_in}
-use Rattle.bar_ledger.specs.Recalls.{Recalls, IsKeptBy, kind_of_terms}
-use Rattle.bar_exchange.specs.Keeping.{IsSaidNow}
-use Rattle.bar_exchange.specs.Says.{order_by}
+use Rattle.bar_ledger.specs.Code.Kept.{Kept}
+use Rattle.bar_ledger.specs.Code.Lookups.{knows_offer, if_known, is_known_in}
+use Rattle.bar_ledger.specs.Code.Lookups as lookups
+use Rattle.bar_ledger.specs.Code.Memory.{find_in}
+use Rattle.bar_ledger.specs.Code.Recalls.{Recalls, IsKeptBy, kind_of_terms}
+use Rattle.bar_exchange.specs.Code.Keeping.{IsSaidNow}
+use Rattle.bar_exchange.specs.Code.Says.{order_by}
 use Rattle.bar_peer.specs.declared.memory.Memory.{Memory}
-use Rattle.bar_peer.specs.Memory.{IsMemoryOf, member_of, HasOtherLedger}
-use Rattle.bar_peer.specs.Sending.{IsCarriedOut}
+use Rattle.bar_peer.specs.Code.Memory.{IsMemoryOf, member_of, HasOtherLedger}
+use Rattle.bar_peer.specs.Code.Sending.{IsCarriedOut}
 use Rattle.bar_peer.proofs.Replying.ByKind.{CarriesOut, Learns, signed_in, said_new, says_now, carried_new}
 use Rattle.bar_peer.proofs.Orders.Recency.{recent_by_time}
 use Rattle.bar_peer.proofs.Orders.CarryingOut.{say_of, carried_not, unsaid, placed, kept_memory}
@@ -60,12 +60,12 @@ pub offer_known : (me : Member) (k : Knowledge) (l : Ledger) (x : Exchange) → 
     → is_some (offer_of me k x) ≡ is_known_in knows_offer l x
 offer_known me k l x h recent push = ap (λ o. is_some o) (h.offers x recent) ∙ offer_by me x (find_in l x) (h.kept x) push
 
--- ---- what is replied
+-- ---- the reply
 
 abbrev replied_to : Member → Knowledge → Exchange → Option Offer → Option Body
 replied_to me k x o = option_and_then (reply_to me k x.round) o
 
--- where the offer isn't known nothing is said
+-- if the offer isn't known, nothing is said
 pub gives_none : (m : Memory) (x : Exchange)
     → 2 ≤ m.who.session.shape.life
     → ((k : Knowledge) → IsMemoryOf (member_of m.who) k m → IsRecent (member_of m.who) k x.round → x.kind ≡ Push
@@ -91,7 +91,7 @@ gives_none m x life lacking out lacks obeys holds own =
     go None e none = carried_not (say_of kinds.Reply x) out _ m holds (is ∙ (λ i. say_new me out x (replied_to me k x (e i))))
     go (Some q) e none = absurd (false≢true (sym none ∙ ap (λ o. is_some o) e))
 
--- what is wanted of the offer, where something is
+-- if something of the offer is wanted, the REPLY is said; otherwise nothing is
 pub gives_reply : (old m : Memory) (x : Exchange) (result : Bool) → EntryIsLearned → HasOtherLedger old m → 2 ≤ m.who.session.shape.life
     → ((k : Knowledge) → IsMemoryOf (member_of m.who) k old → IsRecent (member_of m.who) k x.round → x.kind ≡ Push
     → is_some (offer_of (member_of m.who) k x) ≡ true)

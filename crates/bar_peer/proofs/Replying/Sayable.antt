@@ -1,4 +1,4 @@
--- The replies to a datagram are of exchanges of this member's, and may be said now.
+-- The replies to a datagram are of exchanges of this member, and may be said now.
 use Rattle.std.proofs.Common.{◌≡◌, ◌≤◌, ◌+◌, ℕ, Bool, true, false, ◌||◌, List, [], ◌∷◌, refl, sym, subst, arith, inl, inr}
 use Rattle.std.specs.Prelude.{map, nat_le, ◌==◌}
 use Rattle.std.specs.List.{AllByRecursion}
@@ -21,18 +21,18 @@ use Rattle.bar_rules.specs.Peer.Knowledge.{Knowledge, this_round, is_in_time}
 use Rattle.bar_rules.specs.Peer.Orders.{Order, Ask, Answer, Reveal, GiveCase, AskKey, GiveKey, Resend, Report}
 use Rattle.bar_rules.specs.Peer.Replies.{orders_for, orders_when}
 use Rattle.bar_exchange.specs.declared.say.Say.{Say}
-use Rattle.bar_exchange.specs.Says.{order_by, Fits}
+use Rattle.bar_exchange.specs.Code.Says.{order_by, Fits}
 use Rattle.bar_wire.proofs.ExchangeBy.{round-by}
-use Rattle.bar_peer.specs.Repeats.{is_of_exchange}
-use Rattle.bar_peer.specs.Sending.{MaySayNow}
+use Rattle.bar_peer.specs.Code.Repeats.{is_of_exchange}
+use Rattle.bar_peer.specs.Code.Sending.{MaySayNow}
 use Rattle.bar_peer.proofs.Admitting.Rows.{may_ask_in_time}
 use Rattle.bar_bytes.proofs.Tests.{and-second}
 
--- one of its parties is this member
+-- this member is on its side of the exchange
 abbrev IsOurs : Member → Exchange → Type 0
 IsOurs me x = party_on x (role_of me x) ≡ me.party
 
--- what an order says may be said now
+-- the message of an order may be said now
 abbrev pub IsDue : Member → Knowledge → Order → Type 0
 IsDue me k (Answer x) = IsOurs me x × ((role_of me x ≡ Responder) × (this_round k ≤ x.round + 2))
 IsDue me k (Reveal x) = IsOurs me x × IsRecent me k x.round
@@ -96,12 +96,12 @@ when-due : (me : Member) (k : Knowledge) (b : Bool) (os : List Order) → (b ≡
 when-due me k true os all = all refl
 when-due me k false os all = tt
 
--- what is new is in time, and so is what is answered again
+-- a new datagram is in time, and so is a repeat that is answered
 in-time : (is_new t : Bool) → (is_new ≡ true → t ≡ true) → (is_new || t) ≡ true → t ≡ true
 in-time true t new e = new refl
 in-time false t new e = e
 
--- the row of a datagram of an exchange bounds its round by the deadline of its kind
+-- if the row of a datagram of an exchange is met, its round is within the deadline of its kind
 pub row-deadline : (me : Member) (k : Knowledge) (from to : ℕ) (b : Body) → is_of_exchange b ≡ true → is_row_met me k from to b ≡ true
     → is_in_time me.session k (kind_of b) (round_of b) ≡ true
 row-deadline me k from to (Request r s c) x met = may_ask_in_time me k Balanced from r s met

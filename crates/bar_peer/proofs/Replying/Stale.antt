@@ -1,4 +1,4 @@
--- Datagrams of exchanges that can't be asked about any more are answered by nothing.
+-- If an exchange can't be asked about any more, its datagrams aren't answered.
 use Rattle.std.proofs.Common.{◌≡◌, ◌≤◌, ◌+◌, ℕ, ◌∙◌, Bool, true, false, List, [], Option, Some, None, refl, sym, ap, arith, inl, inr}
 use Rattle.std.specs.Prelude.{nat_le, ◌&&◌, if◌then◌else◌}
 use Rattle.std.specs.Bool.{then_some}
@@ -17,8 +17,8 @@ use Rattle.bar_rules.specs.Peer.Agreement.{IsRecent}
 use Rattle.bar_rules.specs.Peer.Knowledge.{Knowledge, this_round}
 use Rattle.bar_rules.specs.Peer.Orders.{Order}
 use Rattle.bar_rules.specs.Peer.Replies.{orders_for, orders_when, heard_like, if_same, repeated}
-use Rattle.bar_balanced.specs.Balanced.{AreSpelled}
-use Rattle.bar_peer.specs.Repeats.{IsInTime}
+use Rattle.bar_balanced.specs.Code.Balanced.{AreSpelled}
+use Rattle.bar_peer.specs.Code.Repeats.{IsInTime}
 use Rattle.bar_peer.proofs.Admitting.Namesakes.{SpellOne, spelled_like}
 
 -- ---- in time or not
@@ -67,7 +67,7 @@ stale-orders me k from to (Block u b) life t = refl
 stale-orders me k from to (Evidence ds) life t = refl
 stale-orders me k from to (Evict r ps) life t = refl
 
--- ---- what is repeated is the datagram itself
+-- ---- a repeated datagram equals the earlier one
 
 then-is : (b : Bool) (e c : Datagram) → then_some b e ≡ Some c → (b ≡ true) × (e ≡ c)
 then-is true e c h = (refl, cc)

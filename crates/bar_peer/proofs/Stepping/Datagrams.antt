@@ -1,4 +1,4 @@
--- What a datagram leaves: the evidence that is kept first, which admission doesn't read, and its report, which is sent last.
+-- The outcome for a datagram: evidence is kept first, which doesn't affect admission, and its report is sent last.
 use Rattle.std.proofs.Common.{◌≡◌, ◌≤◌, ◌==◌, ◌&&◌, ◌∙◌, ℕ, Bool, true, false, not, List, [], ◌∷◌, ◌++◌, length, Option, Some, None, is_some, refl, sym, ap, subst, arith}
 use Rattle.std.specs.Prelude.{if◌then◌else◌}
 use Rattle.std.specs.Bool.{then_some}
@@ -12,7 +12,7 @@ use Rattle.bar_window.specs.Exchange.{other_role}
 use Rattle.bar_wire.specs.Datagram.{Datagram, Body, Manifest, Block, Request, Response, Divulge, Query, Reply, Case, KeyReq, Key, Evidence, Evict, Place, place_of, exchange_by, is_signed}
 use Rattle.bar_wire.specs.Evidence.{evidence_bytes}
 use Rattle.bar_wire.specs.Grammar.{AreDatagramsInRange}
-use Rattle.bar_wire.specs.Views.{datagram}
+use Rattle.bar_wire.specs.Code.Views.{datagram}
 use Rattle.bar_wire.specs.declared.kind.Kind.TheVariants as kinds
 use Rattle.bar_wire.specs.declared.view.View.{View}
 use Rattle.bar_rules.specs.Member.{Member}
@@ -28,27 +28,27 @@ use Rattle.bar_rules.specs.Peer.Rules.{IsObedient}
 use Rattle.bar_rules.specs.Peer.Run.{Out, perform_all, answer_repeat, answered_to, with_evidence, report_new}
 use Rattle.bar_rules.specs.Peer.Terms.{terms_by}
 use Rattle.bar_store.specs.declared.store.Store.{Store}
-use Rattle.bar_store.specs.Holds.{Holds}
-use Rattle.bar_bytes.specs.Rooms.{kept_in}
+use Rattle.bar_store.specs.Code.Holds.{Holds}
+use Rattle.bar_bytes.specs.Code.Rooms.{kept_in}
 use Rattle.bar_bytes.proofs.Options.{or-none, some-mapped}
 use Rattle.bar_ledger.specs.declared.ledger.Ledger.{Ledger}
-use Rattle.bar_ledger.specs.Recalls.{Recalls}
+use Rattle.bar_ledger.specs.Code.Recalls.{Recalls}
 use Rattle.bar_laws.specs.Knowing.{EntryIsLearned}
 use Rattle.bar_laws.specs.Sizes.{LogKeepsShortEvidence}
 use Rattle.bar_peer.specs.declared.credentials.Credentials.{Credentials}
 use Rattle.bar_peer.specs.declared.memory.Memory.{Memory}
 use Rattle.bar_peer.specs.declared.order.Order.TheVariants as queued
-use Rattle.bar_peer.specs.Orders.{Orders}
-use Rattle.bar_peer.specs.Evictions.{was_heard, is_named}
-use Rattle.bar_peer.specs.Memory.{member_of, HasOtherEvidence, IsMemoryOf, Represents}
-use Rattle.bar_peer.specs.Sending.{HasOutcome, report_now}
+use Rattle.bar_peer.specs.Code.Orders.{Orders}
+use Rattle.bar_peer.specs.Code.Evictions.{was_heard, is_named}
+use Rattle.bar_peer.specs.Code.Memory.{member_of, HasOtherEvidence, IsMemoryOf, Represents}
+use Rattle.bar_peer.specs.Code.Sending.{HasOutcome, report_now}
 use Rattle.bar_peer.proofs.Replying.Answering.{answered-before}
 use Rattle.bar_laws.proofs.Fitting.{perform-before}
 use Rattle.bar_peer.proofs.Ticking.Unchanged.{evidence_after}
 use Rattle.bar_peer.proofs.Hearing.FromBroadcaster.{kept_more}
 use Rattle.bar_peer.proofs.Orders.Sendings.{sent_report, stands_with, pushed}
 
--- ---- admission doesn't read the evidence that is kept
+-- ---- admission doesn't depend on kept evidence
 
 terms-kept : (me : Member) (k : Knowledge) (q : ℕ) (e : List (List ℕ)) (kind : XKind) (x : Exchange)
     → terms_by kind me (with_kept q e k) x ≡ terms_by kind me k x
@@ -138,7 +138,7 @@ recalls-kept me k l q e h = record {
   opens = h.opens;
 }
 
--- evidence is put into the room of a party, where it fits
+-- evidence is stored in the room of a party, if it fits
 abbrev pub KeepsIn : Memory → Memory → ℕ → List (List ℕ) → Type 0
 KeepsIn m n q e =
     AreDatagramsInRange e → length (evidence_bytes e) ≤ m.evidence.size → (party : ℕ)
@@ -156,11 +156,11 @@ memory-kept me k m n q e same none range fits keeps h = record {
   evidence = λ party. kept_more evidence_bytes k.evidence e q party _ none (h.evidence party) ∙ sym (keeps range fits party);
 }
 
--- evidence is kept against a party once the log has it
+-- evidence that the log keeps first against a party is its kept evidence
 pub kept-now : (me : Member) (log : Log) (q : ℕ) (e : List (List ℕ)) → kept log q ≡ None → kept (Kept q e ∷ log) q ≡ Some e
 kept-now me log q e none = λ i. option_or (none i) (then_some (eq-eqb q q refl i) e)
 
--- what is found is kept
+-- found evidence is kept in the memory
 pub found-tells : EntryIsLearned → LogKeepsShortEvidence → (m n : Memory) (log : Log) (q : ℕ) (e : List (List ℕ)) → HasOtherEvidence m n
     → IsObedient (member_of m.who) (Kept q e ∷ log) → Represents log m → KeepsIn m n q e → Represents (Kept q e ∷ log) n
 found-tells learned short m n log q e same obeys h keeps =
@@ -171,7 +171,7 @@ found-tells learned short m n log q e same obeys h keeps =
     subst (λ (w : Credentials). IsMemoryOf (member_of w) (known (member_of w) (Kept q e ∷ log)) n) (sym same.who)
     (subst (λ (k : Knowledge). IsMemoryOf me k n) (sym (learned me log (Kept q e))) (memory-kept me (known me log) m n q e same none few.range fits keeps h))
 
--- what is found is kept, and told
+-- found evidence is kept, and the memory represents the log with it
 pub found-kept : EntryIsLearned → LogKeepsShortEvidence → (m n : Memory) (log : Log) (q : ℕ) (ev : Option (List (List ℕ))) (e : List (List ℕ))
     → ev ≡ Some e → HasOtherEvidence m n → IsObedient (member_of m.who) (with_evidence (member_of m.who) log q ev) → Represents log m → KeepsIn m n q e
     → (true ≡ is_some ev) × Represents (with_evidence (member_of m.who) log q ev) n
@@ -179,7 +179,7 @@ found-kept learned short m n log q None e is same obeys h keeps = absurd (cc)
 found-kept learned short m n log q (Some f) e is same obeys h keeps =
     (refl, found-tells learned short m n log q f same obeys h (subst (KeepsIn m n q) (sym (same_Some f e is)) keeps))
 
--- where nothing is found nothing is kept
+-- if no evidence is found, none is kept
 pub none-kept : (m n : Memory) (log : Log) (q : ℕ) (ev : Option (List (List ℕ))) → ev ≡ None → HasOtherEvidence m n → n.evidence ≡ m.evidence
     → Represents log m → (false ≡ is_some ev) × Represents (with_evidence (member_of m.who) log q ev) n
 none-kept m n log q None is same alike h =
@@ -198,7 +198,7 @@ none-kept m n log q None is same alike h =
     )
 none-kept m n log q (Some f) is same alike h = absurd (cc)
 
--- ---- no evidence where none is looked for
+-- ---- no evidence without a search
 
 pub none-new : (me : Member) (k : Knowledge) (d : Datagram) → is_tried me k d ≡ false → new_evidence me k d ≡ None
 unfolding new_evidence
@@ -207,7 +207,7 @@ none-new me k d is =
     then option_or (if_accuses me.session (table_of k) d.message.from (datagram_bytes me.session d ∷ []))
     (pairs_of me k d (place_of d.message)) else None
 
--- ---- obedience before
+-- ---- the log was obedient before
 
 pub report-before : (me : Member) (out : Out) (q : ℕ) (ev : Option (List (List ℕ))) → IsObedient me (report_new me out q ev).state → IsObedient me out.state
 report-before me out q None h = h
@@ -217,7 +217,7 @@ evidence-before : (me : Member) (log : Log) (q : ℕ) (ev : Option (List (List �
 evidence-before me log q None h = h
 evidence-before me log q (Some e) h = h.1
 
--- each log on the way from one to what a datagram leaves was obedient
+-- every log on the way to the outcome of a datagram was obedient
 pub record AreObedient (me : Member) (log : Log) (d : Datagram) (q : ℕ) (ev : Option (List (List ℕ))) : Type 0 where
   pub first : IsObedient me log
   pub kept : IsObedient me (with_evidence me log q ev)
@@ -240,7 +240,7 @@ repeat-keeps : (me : Member) (log : Log) (o : Option Datagram) (q : ℕ)
 repeat-keeps me log None q = refl
 repeat-keeps me log (Some d) q = evidence_after me (begun log) (reply_orders me (known me log) false d) q
 
--- an answer leaves the evidence
+-- answering a datagram doesn't change the evidence
 answer-keeps : (me : Member) (log : Log) (d : Datagram) (q : ℕ)
     → (known me (answered_to me log d).state).evidence q ≡ (known me log).evidence q
 answer-keeps me log d q = go (is_admitted me (known me log) d)
@@ -251,7 +251,7 @@ answer-keeps me log d q = go (is_admitted me (known me log) d)
     go true = evidence_after me (begun (Heard d ∷ log)) (reply_orders me (known me (Heard d ∷ log)) true d) q ∙ heard-keeps log d q
     go false = repeat-keeps me log (repeated me (known me log) d) q
 
--- the report of what was kept stands behind the answers
+-- the report of the kept evidence is sent after the answers
 pub report-stands : (m : Memory) (o p : Orders) (log : Log) (d : Datagram) (q : ℕ) (e : List (List ℕ)) → kept log q ≡ None
     → HasOutcome (answered_to (member_of m.who) (Kept q e ∷ log) d) m o → p.list.items ≡ o.list.items ++ queued.Report q ∷ []
     → HasOutcome (report_new (member_of m.who) (answered_to (member_of m.who) (Kept q e ∷ log) d) q (Some e)) m p
@@ -264,14 +264,14 @@ report-stands m o p log d q e none h put =
     subst (λ (after : Out). HasOutcome after m p) (sym (sent_report me out q))
     (stands_with m o p out (queued.Report q) s refl tt h (put ∙ pushed (queued.Report q) s o.list.items some))
 
--- a datagram is answered, whatever log the memory holds
+-- a datagram is answered, for every log that the memory represents
 abbrev pub Answers : Credentials → View → Memory → Orders → Bool → Memory → Orders → Type 0
 Answers who v m o admits n p =
     (log : Log) → IsObedient (member_of who) (answered_to (member_of who) log (datagram who.session.shape v)).state → Represents log m
     → admits ≡ is_admitted (member_of who) (known (member_of who) log) (datagram who.session.shape v) → o.list.items ≡ [] → 2 ≤ o.room
     → HasOutcome (answered_to (member_of who) log (datagram who.session.shape v)) n p
 
--- what a datagram leaves stands, where evidence was looked for
+-- the outcome of a datagram that was searched for evidence
 pub tried-stands : (m n : Memory) (o p : Orders) (log : Log) (d : Datagram) (q : ℕ) (ev : Option (List (List ℕ)))
     → n.who ≡ m.who
     → HasOutcome (answered_to (member_of m.who) (with_evidence (member_of m.who) log q ev) d) n o
@@ -283,7 +283,7 @@ tried-stands m n o p log d q (Some e) who h obeys some put =
     subst (λ (me : Member). HasOutcome (report_new me (answered_to me (Kept q e ∷ log) d) q (Some e)) n p) same
     (report-stands n o p log d q e obeys.kept.0.new (subst (λ (me : Member). HasOutcome (answered_to me (Kept q e ∷ log) d) n o) (sym same) h) put)
 
--- and where nothing is found, or nothing was looked for
+-- the outcome if nothing was found or no search was made
 pub untried-stands : (me : Member) (n : Memory) (o : Orders) (log : Log) (d : Datagram) (q : ℕ) (ev : Option (List (List ℕ)))
     → HasOutcome (answered_to me (with_evidence me log q ev) d) n o → is_some ev ≡ false
     → HasOutcome (report_new me (answered_to me (with_evidence me log q ev) d) q ev) n o

@@ -1,4 +1,4 @@
--- What a datagram that tells nothing isn't, and what is left to be given out where nothing is sent.
+-- Properties of a datagram that tells nothing, and what is left to be given out if nothing is sent.
 use Rattle.std.proofs.Common.{◌≡◌, ◌&&◌, true, false, not, List, [], ◌∷◌, map, None, refl}
 use Rattle.std.specs.Prelude.{is_some}
 use Rattle.std.proofs.lemmas.Bool.{and_parts, not-true}
@@ -11,7 +11,7 @@ use Rattle.bar_rules.specs.Peer.Replies.{repeated}
 use Rattle.bar_laws.specs.Ignoring.{tells_nothing}
 use Rattle.bar_bytes.proofs.Options.{none-of}
 
--- it isn't admitted, repeats nothing, and completes not-true evidence
+-- it isn't admitted, is no repeat, and completes no evidence
 pub record TellsNothing (me : Member) (k : Knowledge) (d : Datagram) : Type 0 where
   pub refused : is_admitted me k d ≡ false
   pub unlike : repeated me k d ≡ None
@@ -27,7 +27,7 @@ nothing-told me k d e =
       unshown = none-of _ (not-true _ parts.1);
     }
 
--- a list that is mapped to none has none
+-- a list whose image is empty is empty
 pub none_mapped : {A B : Type 0} (f : A → B) (xs : List A) → map f xs ≡ [] → xs ≡ []
 none_mapped f [] e = refl
 none_mapped f (x ∷ xs) e = absurd (cc)

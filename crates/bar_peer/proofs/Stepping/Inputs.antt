@@ -1,4 +1,4 @@
--- What a step leaves, over the list of inputs.
+-- The outcome of a step, given the inputs before it.
 use Rattle.bar_wire.specs.Grammar.{words_of}
 use Rattle.std.proofs.Common.{◌≡◌, ◌≤◌, ◌-◌, ◌*◌, ◌&&◌, ◌∙◌, ℕ, Bool, true, false, List, [], ◌∷◌, ◌++◌, refl, sym, ap, subst, arith}
 use Rattle.std.specs.Prelude.{nat_le, ◌==◌, if◌then◌else◌, map, Some}
@@ -19,25 +19,25 @@ use Rattle.bar_rules.specs.Peer.Run.{Out, step, log_after, take_input}
 use Rattle.bar_rules.specs.Peer.Agreement.{IsFresh}
 use Rattle.bar_rules.specs.Peer.Ticks.{contents_at_tick, contents_of_round, orders_at_tick}
 use Rattle.bar_store.specs.declared.store.Store.{Store}
-use Rattle.bar_store.specs.Holds.{Holds}
+use Rattle.bar_store.specs.Code.Holds.{Holds}
 use Rattle.bar_laws.specs.Knowing.{EntryIsLearned}
 use Rattle.bar_laws.specs.Obedience.{SignedByRule}
 use Rattle.bar_rules.specs.Peer.Rules.{IsObedient}
 use Rattle.bar_peer.specs.declared.credentials.Credentials.{Credentials}
 use Rattle.bar_peer.specs.declared.memory.Memory.{Memory}
 use Rattle.bar_peer.specs.declared.order.Order.{Order}
-use Rattle.bar_peer.specs.Orders.{Orders}
+use Rattle.bar_peer.specs.Code.Orders.{Orders}
 use Rattle.bar_peer.specs.declared.playing.Playing.{Playing}
-use Rattle.bar_peer.specs.Memory.{member_of, Represents}
-use Rattle.bar_core.specs.Orders.{left_in}
-use Rattle.bar_peer.specs.Sending.{AreFor, IsOrderTimely, HasOutcome, order_now}
-use Rattle.bar_peer.specs.StandsFor.{StandsFor, AreLeft, contents_left}
-use Rattle.bar_peer.specs.Steps.{is_tick}
-use Rattle.bar_peer.specs.Playing.{contents_in}
+use Rattle.bar_peer.specs.Code.Memory.{member_of, Represents}
+use Rattle.bar_core.specs.Code.Orders.{left_in}
+use Rattle.bar_peer.specs.Code.Sending.{AreFor, IsOrderTimely, HasOutcome, order_now}
+use Rattle.bar_peer.specs.Code.StandsFor.{StandsFor, AreLeft, contents_left}
+use Rattle.bar_peer.specs.Code.Steps.{is_tick}
+use Rattle.bar_peer.specs.Code.Playing.{contents_in}
 use Rattle.bar_peer.proofs.Giving.Contents.{contents_told}
 use Rattle.bar_peer.proofs.Orders.Silence.{perform_all-plays, datagram-silent}
 
--- ---- the log after one input more
+-- ---- the log after one more input
 
 pub log-more : (me : Member) (log : Log) (inputs : List Input) (input : Input) → log_after me log (inputs ++ input ∷ []) ≡ (step me (log_after me log inputs) input).state
 log-more me log [] input = refl
@@ -50,7 +50,7 @@ step-is : (me : Member) (log : Log) (input : Input) (over : Bool) → nat_le (la
 unfolding machine.step
 step-is me log input over e = ap (step-by me log input) e
 
--- ---- before the last tick is over
+-- ---- before the last tick
 
 module _ (m n : Memory) (p : Orders) (inputs : List Input) (input : Input) (who : n.who ≡ m.who) (go : nat_le (last_tick m.who.session) m.ticks ≡ false)
     (stood : StandsFor m inputs) (stands : HasOutcome (take_input (member_of m.who) (log_after (member_of m.who) [] inputs) input) n p) where
@@ -78,7 +78,7 @@ module _ (m n : Memory) (p : Orders) (inputs : List Input) (input : Input) (who 
   pub then-silent : (contents : List (List ℕ)) → contents ≡ (take_input me log input).contents → contents ≡ (step me log input).contents
   then-silent contents e = e ∙ ap (λ (out : Out). out.contents) (sym now)
 
--- what a tick plays, by the memory after it
+-- what a tick plays, from the memory after it
 pub tick-plays : EntryIsLearned → (m n : Memory) (playing : Playing) (log : Log) → n.who ≡ m.who → Represents (take_input (member_of m.who) log event.Tick).state n
     → ((log : Log) → Represents log n → contents_left n.store playing ≡ contents_at_tick (member_of n.who) (known (member_of n.who) log))
     → contents_left n.store playing ≡ (take_input (member_of m.who) log event.Tick).contents
@@ -92,7 +92,7 @@ tick-plays learned m n playing log who tells plays =
 pub datagram-plays : EntryIsLearned → (me : Member) (log : Log) (bytes : List ℕ) → [] ≡ (take_input me log (event.Datagram bytes)).contents
 datagram-plays learned me log bytes = sym (datagram-silent learned me log (datagram_of me.session bytes))
 
--- ---- after it
+-- ---- after the last tick
 
 pub over-stands : (m : Memory) (inputs : List Input) (input : Input) → nat_le (last_tick m.who.session) m.ticks ≡ true → StandsFor m inputs
     → step (member_of m.who) (log_after (member_of m.who) [] inputs) input ≡ begun (log_after (member_of m.who) [] inputs)
@@ -123,7 +123,7 @@ obeys-now m inputs input law go stood =
     let now : step me log input ≡ take_input me log input = step-is me log input false (ap (nat_le (last_tick me.session)) stood.time ∙ go) in
     subst (IsObedient me) (log-more me [] inputs input ∙ ap (λ (out : Out). out.state) now) (law me m.who.is_member (inputs ++ input ∷ [])).obedient
 
--- nothing was sent, and nothing is left
+-- if nothing was sent, no orders are left
 pub none-left : (me : Member) (k : Knowledge) (left : List Order) (sends : List (ℕ × Datagram)) → left ≡ [] → sends ≡ [] → AreFor me k left sends
 none-left me k left sends e f = record {
   same = ap (map (order_now me k)) e ∙ sym (ap (map (λ send. Some send)) f);

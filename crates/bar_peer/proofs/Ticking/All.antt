@@ -1,4 +1,4 @@
--- All that a tick sends: what is sent again, the requests of a round, and reports.
+-- All that a tick sends: messages that are sent again, the requests of a round, and reports.
 use Rattle.std.proofs.Common.{◌≡◌, ◌≤◌, ◌+◌, ℕ, ◌∙◌, ◌==◌, Bool, true, false, List, ◌++◌, length, refl, sym, ap, subst}
 use Rattle.std.proofs.lemmas.List.{append-nil}
 use Rattle.bar_session.specs.Time.{round_after, slot_after}
@@ -13,20 +13,20 @@ use Rattle.bar_rules.specs.Peer.Ticks.{new_requests, reports, orders_at_tick}
 use Rattle.bar_rules.specs.Runs.{begun}
 use Rattle.bar_peer.specs.declared.credentials.Credentials.{Credentials}
 use Rattle.bar_peer.specs.declared.memory.Memory.{Memory}
-use Rattle.bar_peer.specs.Orders.{Orders}
-use Rattle.bar_peer.specs.Memory.{member_of}
-use Rattle.bar_peer.specs.Sending.{HasOutcome}
-use Rattle.bar_peer.specs.Ticking.{orders_of_opens, is_first_slot, AsksPartners, Reports}
+use Rattle.bar_peer.specs.Code.Orders.{Orders}
+use Rattle.bar_peer.specs.Code.Memory.{member_of}
+use Rattle.bar_peer.specs.Code.Sending.{HasOutcome}
+use Rattle.bar_peer.specs.Code.Ticking.{orders_of_opens, is_first_slot, AsksPartners, Reports}
 use Rattle.bar_laws.proofs.Fitting.{perform_all-before}
 use Rattle.bar_peer.proofs.Ticking.Unchanged.{announced_after, evidence_after}
 use Rattle.bar_laws.proofs.Repeating.{all-append}
 use Rattle.bar_peer.proofs.Orders.Unlogged.{opens_state}
 
--- what is sent again, and the requests that are due
+-- the messages that are sent again, and the requests that are due
 abbrev first_orders : Member → Knowledge → Bool → List Order
 first_orders me k is_first = orders_of_opens me k ++ orders_when is_first (new_requests me k (this_round k))
 
--- what a tick sends, where it sends requests and reports or not
+-- what a tick sends, depending on whether requests and reports are due
 at_tick : (me : Member) (log : Log) (is_first is_last : Bool) → is_first_slot me.session (known me log).ticks ≡ is_first
     → (slot_after (known me log).ticks == 7) ≡ is_last
     → perform_all me (perform_all me (begun log) (first_orders me (known me log) is_first))
@@ -37,13 +37,13 @@ at_tick me log is_first is_last first last =
     sym (all-append me (begun log) (first_orders me k is_first) (orders_when is_last (reports me k)))
     ∙ (λ i. perform_all me (begun log) (first_orders me k (sym first i) ++ orders_when (sym last i) (reports me k)))
 
--- What is sent again and the requests of a tick stand, if any are due.
+-- The outcome has the messages that are sent again, and the requests if they are due.
 abbrev pub StandsAsked : Memory → Log → Memory → Orders → Type 0
 StandsAsked m log n p =
     let me : Member = member_of m.who in
     HasOutcome (perform_all me (begun log) (first_orders me (known me log) (is_first_slot me.session m.ticks))) n p
 
--- So it is, the peer and its time are the same, and two orders were added at most.
+-- This outcome holds, the peer and its time are the same, and at most two orders were added.
 pub record IsAsked (m n : Memory) (o p : Orders) (log : Log) : Type 0 where
   pub stands : StandsAsked m log n p
   pub who : n.who ≡ m.who
@@ -89,7 +89,7 @@ unasked_at_tick m o log other h =
     ∙ (λ i. first_orders me k (sym other i)))
     h
 
--- reports, by whoever's memory it is
+-- reports, for a memory with these credentials
 abbrev ReportsOf : Credentials → Memory → Orders → Orders → Type 0
 ReportsOf who n p q =
     (out : Out) (before : Knowledge)

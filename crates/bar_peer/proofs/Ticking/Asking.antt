@@ -1,4 +1,4 @@
--- What is asked for: a REQUEST or a QUERY that is sent again, or said for the first time.
+-- Asking for an exchange: a REQUEST or a QUERY is sent again, or said for the first time.
 use Rattle.std.proofs.Common.{◌≡◌, ◌∙◌, ◌≤◌, ◌+◌, ◌==◌, ℕ, Bool, true, false, is_some, ◌∷◌, Some, None, refl, sym, ap, subst, arith}
 use Rattle.std.specs.Prelude.{option_map, if◌then◌else◌}
 use Rattle.std.proofs.lemmas.Bool.Decides.{nat_tests}
@@ -21,10 +21,10 @@ use Rattle.bar_laws.specs.Knowing.{EntryIsLearned}
 use Rattle.bar_laws.specs.Rooms.{LogLeavesRoom}
 use Rattle.bar_laws.specs.Soundness.{LogIsSound}
 use Rattle.bar_exchange.specs.declared.say.Say.{Say}
-use Rattle.bar_exchange.specs.Keeping.{IsSaidNow, HasRoomLeft}
+use Rattle.bar_exchange.specs.Code.Keeping.{IsSaidNow, HasRoomLeft}
 use Rattle.bar_peer.specs.declared.memory.Memory.{Memory}
-use Rattle.bar_peer.specs.Memory.{IsMemoryOf, Represents, member_of, HasOtherLedger}
-use Rattle.bar_peer.specs.Sending.{send_now, IsCarriedOut}
+use Rattle.bar_peer.specs.Code.Memory.{IsMemoryOf, Represents, member_of, HasOtherLedger}
+use Rattle.bar_peer.specs.Code.Sending.{send_now, IsCarriedOut}
 use Rattle.bar_peer.proofs.Replying.ByKind.{Learns, signed_in, said_new, says_now, carried_new}
 use Rattle.bar_peer.proofs.Hearing.RoomLeft.{room-left, kept_asked}
 use Rattle.bar_peer.proofs.Orders.CarryingOut.{IsToldAsSaid, say_of, said_again, unsaid, placed, first_said}
@@ -58,11 +58,11 @@ initiated : (x : Exchange) (party : ℕ) (own : Bool) → (x.initiator == party)
 initiated x party true is role = grind (arith, nat_tests, is)
 initiated x party false is role = absurd (cc)
 
--- its own side is the initiator's
+-- this member is on the initiator's side
 ours_asked : (me : Member) (x : Exchange) → role_of me x ≡ Initiator → party_on x (role_of me x) ≡ me.party
 ours_asked me x own = ap (party_on x) own ∙ initiated x me.party (x.initiator == me.party) refl own
 
--- An exchange of this round is asked for, where it wasn't, with another ledger.
+-- An exchange of this round is asked for that wasn't before, with another ledger.
 pub gives_request : (old m : Memory) (x : Exchange) → EntryIsLearned → LogLeavesRoom → LogIsSound → HasOtherLedger old m
     → ((k : Knowledge) (d : Datagram) → IsMemoryOf (member_of m.who) k old → IsSaidNow (member_of m.who) k d (request_kind x.kind) x
     → d.message.body ≡ ask_body (member_of m.who) k x x.kind → HasRoomLeft (member_of m.who) k → this_round k ≤ x.round + answer_deadline

@@ -9,7 +9,7 @@ use Rattle.bar_rules.specs.Peer.Exchanges.{exchanges_said}
 use Rattle.bar_rules.specs.Peer.Knowledge.{known}
 use Rattle.bar_rules.specs.Peer.Log.{Log, round_now}
 
--- one more is done
+-- one more exchange is done
 pub one_done : (xs done rest after : List Exchange) (x : Exchange) → done ++ rest ≡ xs → rest ≡ x ∷ after → (done ++ x ∷ []) ++ after ≡ xs
 one_done xs done rest after x split is = append_assoc done (x ∷ []) after ∙ (λ i. done ++ sym is i) ∙ split
 

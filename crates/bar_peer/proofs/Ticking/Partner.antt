@@ -1,4 +1,4 @@
--- A partner who is asked for an exchange.
+-- Asking a partner for an exchange.
 use Rattle.std.proofs.Common.{◌≡◌, ℕ, ◌∙◌, Bool, true, false, not, List, [], ◌∷◌, ◌++◌, sym, ap, subst, arith}
 use Rattle.std.specs.Prelude.{if◌then◌else◌}
 use Rattle.bar_window.specs.declared.exchange.Exchange.{Exchange}
@@ -19,15 +19,15 @@ use Rattle.bar_exchange.specs.declared.say.Say.{Say}
 use Rattle.bar_peer.specs.declared.credentials.Credentials.{Credentials}
 use Rattle.bar_peer.specs.declared.memory.Memory.{Memory}
 use Rattle.bar_peer.specs.declared.order.Order.TheVariants as queued
-use Rattle.bar_peer.specs.Orders.{Orders}
-use Rattle.bar_peer.specs.Memory.{member_of}
-use Rattle.bar_peer.specs.Sending.{IsTimely, AreFor, IsCarriedOut, HasOutcome}
-use Rattle.bar_peer.specs.Ticking.{is_unasked}
+use Rattle.bar_peer.specs.Code.Orders.{Orders}
+use Rattle.bar_peer.specs.Code.Memory.{member_of}
+use Rattle.bar_peer.specs.Code.Sending.{IsTimely, AreFor, IsCarriedOut, HasOutcome}
+use Rattle.bar_peer.specs.Code.Ticking.{is_unasked}
 use Rattle.bar_peer.proofs.Orders.Growth.{Grows, timely_still}
 use Rattle.bar_peer.proofs.Orders.Outcomes.{orders_stay, orders_pushed}
 use Rattle.bar_peer.proofs.Ticking.Timely.{timely_request}
 
--- the seed of a round, from the chain, chooses the member's partner
+-- a round's seed from the chain chooses the member's partner
 pub chosen_partner : (who : Credentials) (round : ℕ) (kind : XKind) (seed : List ℕ)
     → seed ≡ seeds.seed_of who.chain.secrets who.chain.rounds round
     → partners.partner_of who.session.shape.id who.session.shape.peers seed kind who.secrets.party
@@ -49,7 +49,7 @@ partner_is who shape round now kind seed to same is chain chosen =
     ∙ (λ i. partners.partner_of (same i).id (same i).peers seed kind who.secrets.party)
     ∙ chosen_partner who now kind seed (chain ∙ ap (seeds.seed_of who.chain.secrets who.chain.rounds) is)
 
--- who is announced evicted, or owes a key, isn't asked
+-- a partner that is announced evicted or owes a key isn't asked
 pub none_asked : (me : Member) (before : Knowledge) (round : ℕ) (kind : XKind) (to : ℕ)
     → to ≡ partner_of me.session (seed_of me round) kind me.party → is_unasked me before to ≡ true → [] ≡ asking_partner me before round kind
 none_asked me before round kind to is unasked = λ i.
@@ -71,14 +71,14 @@ one_asked me before round kind to x is asked x_is =
     ∙ (λ i. orders_when (not (is_unasked me before (is i)))
     (Ask (record { round = round; kind = kind; initiator = me.party; responder = is i }) ∷ []))
 
--- ---- the side of who asks
+-- ---- the side of the asking member
 
 -- a request of this round may be sent
 pub asks_timely : (me : Member) (k : Knowledge) (x : Exchange) → x.round ≡ this_round k
     → IsTimely me k (record { kind = request_kind x.kind; x = x })
 asks_timely me k x now = timely_request me k x.kind x.round (omega arith)
 
--- ---- an order that is carried out
+-- ---- carrying out the order
 
 pub carried_stands : (m n : Memory) (o p : Orders) (out after : Out) (say : Say) (is_sent : Bool) → n.who ≡ m.who
     → Grows (known (member_of m.who) out.state) (known (member_of m.who) after.state)

@@ -13,20 +13,20 @@ use Rattle.bar_rules.specs.Peer.Orders.{Order, Report}
 use Rattle.bar_rules.specs.Peer.Run.{Out, perform_all}
 use Rattle.bar_peer.specs.declared.memory.Memory.{Memory}
 use Rattle.bar_peer.specs.declared.order.Order.TheVariants as queued
-use Rattle.bar_peer.specs.Orders.{Orders}
-use Rattle.bar_peer.specs.Memory.{member_of}
-use Rattle.bar_peer.specs.Sending.{report_now, HasOutcome}
-use Rattle.bar_peer.specs.Ticking.{is_reported}
+use Rattle.bar_peer.specs.Code.Orders.{Orders}
+use Rattle.bar_peer.specs.Code.Memory.{member_of}
+use Rattle.bar_peer.specs.Code.Sending.{report_now, HasOutcome}
+use Rattle.bar_peer.specs.Code.Ticking.{is_reported}
 use Rattle.bar_peer.proofs.Ticking.Unchanged.{evidence_after, announced_after}
 use Rattle.bar_laws.proofs.Repeating.{all-append}
 use Rattle.bar_peer.proofs.Orders.Sendings.{sent_report, stands_with, pushed}
 use Rattle.bar_bytes.proofs.Options.{some-mapped}
 
--- the reports against the first peers
+-- the reports against the first `peers` peers
 abbrev pub reports_to : Knowledge → ℕ → List Order
 reports_to k peers = map Report (filter (is_reported k) (range_with_len 1 peers))
 
--- the report against one party, where it is due
+-- the report against one party, if it is due
 abbrev report_if : Bool → ℕ → List Order
 report_if is_due party = if is_due then Report party ∷ [] else []
 
@@ -34,7 +34,7 @@ one_if : (is_due : Bool) (party : ℕ) → map Report (if is_due then party ∷ 
 one_if true party = refl
 one_if false party = refl
 
--- one peer more
+-- the reports with one more peer
 reports_more : (k : Knowledge) (done party : ℕ) (is_due : Bool) → 1 + done ≡ party → is_reported k party ≡ is_due
     → reports_to k (done + 1) ≡ reports_to k done ++ report_if is_due party
 reports_more k done party is_due at is =
@@ -45,7 +45,7 @@ reports_more k done party is_due at is =
     ∙ (λ i. reports_to k done ++ map Report (if is i then party ∷ [] else []))
     ∙ ap (λ (os : List Order). reports_to k done ++ os) (one_if is_due party)
 
--- what was kept and announced before tells whether a report is due after some of them
+-- whether a report is due doesn't depend on earlier orders, as these don't change evidence and announcements
 pub same_reported : (me : Member) (out : Out) (before : Knowledge) (os : List Order) (party : ℕ)
     → before.is_announced party ≡ (known me out.state).is_announced party → before.evidence party ≡ (known me out.state).evidence party
     → is_reported before party ≡ is_reported (known me (perform_all me out os).state) party
@@ -53,7 +53,7 @@ same_reported me out before os party announced evidence =
     λ i. is_some ((evidence ∙ sym (evidence_after me out os party)) i)
     && not ((announced ∙ sym (announced_after me out os party)) i)
 
--- An order is put behind the others, where it is due.
+-- If it is due, an order is appended to the queue.
 pub record IsPushed (old new : Orders) (party : ℕ) (is_due : Bool) : Type 0 where
   pub list : length old.list.items < old.room
       → new.list.items ≡ (if is_due then old.list.items ++ queued.Report party ∷ [] else old.list.items)
@@ -69,7 +69,7 @@ not_due o party is_due is = record {
   given = refl;
 }
 
--- one report more stands, where it is due
+-- the outcome with one more report, if it is due
 pub one_reported : (m : Memory) (o p : Orders) (out : Out) (before : Knowledge) (done party : ℕ) (is_due : Bool) → 1 + done ≡ party
     → before.evidence party ≡ (known (member_of m.who) out.state).evidence party → is_reported before party ≡ is_due
     → HasOutcome (perform_all (member_of m.who) out (reports_to before done)) m o

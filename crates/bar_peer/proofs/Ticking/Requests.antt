@@ -1,4 +1,4 @@
--- The requests of a round: a balanced exchange, and a push where there are young updates.
+-- The requests of a round: a balanced exchange and, if there are young updates, a push.
 use Rattle.std.proofs.Common.{◌≡◌, ◌≤◌, ◌+◌, ℕ, ◌∙◌, true, false, nat_lt, List, ◌++◌, length, sym, ap, refl, subst, arith}
 use Rattle.std.proofs.lemmas.List.{append-nil}
 use Rattle.bar_window.specs.declared.exchange.XKind.TheVariants.{Balanced, Push}
@@ -12,10 +12,10 @@ use Rattle.bar_rules.specs.Peer.Run.{Out, perform_all}
 use Rattle.bar_rules.specs.Peer.Ticks.{asking_partner, new_requests}
 use Rattle.bar_peer.specs.declared.credentials.Credentials.{Credentials}
 use Rattle.bar_peer.specs.declared.memory.Memory.{Memory}
-use Rattle.bar_peer.specs.Orders.{Orders}
-use Rattle.bar_peer.specs.Memory.{member_of}
-use Rattle.bar_peer.specs.Sending.{HasOutcome}
-use Rattle.bar_peer.specs.Ticking.{AsksPartner}
+use Rattle.bar_peer.specs.Code.Orders.{Orders}
+use Rattle.bar_peer.specs.Code.Memory.{member_of}
+use Rattle.bar_peer.specs.Code.Sending.{HasOutcome}
+use Rattle.bar_peer.specs.Code.Ticking.{AsksPartner}
 use Rattle.bar_laws.proofs.Fitting.{perform_all-before}
 use Rattle.bar_peer.proofs.Ticking.Unchanged.{unasked_after}
 use Rattle.bar_laws.proofs.Repeating.{all-append}

@@ -1,4 +1,4 @@
--- What is said again at a tick may still be sent again.
+-- The messages that are sent again at a tick may still be sent.
 use Rattle.std.proofs.Common.{◌≡◌, ℕ, ◌+◌, true, not, List, [], ◌∷◌, map, subst, sym}
 use Rattle.std.specs.List.{AllByRecursion}
 use Rattle.std.proofs.lemmas.Bool.{leb-true}
@@ -15,12 +15,12 @@ use Rattle.bar_rules.specs.Peer.Knowledge.{Knowledge, this_round, answer_deadlin
 use Rattle.bar_rules.specs.Peer.Orders.{Order, Resend, Reveal, AskKey}
 use Rattle.bar_rules.specs.Peer.Ticks.{again, lacks_case}
 use Rattle.bar_laws.proofs.Logs.{again-all, when-all}
-use Rattle.bar_exchange.specs.Says.{order_again}
+use Rattle.bar_exchange.specs.Code.Says.{order_again}
 use Rattle.bar_exchange.specs.declared.say.Say.{Say}
-use Rattle.bar_peer.specs.Sending.{IsTimely}
-use Rattle.bar_peer.specs.Ticking.{orders_of_open}
+use Rattle.bar_peer.specs.Code.Sending.{IsTimely}
+use Rattle.bar_peer.specs.Code.Ticking.{orders_of_open}
 
--- what an order sends again may still be sent again
+-- the message that an order sends again may still be sent
 abbrev IsTimelyOrder : Member → Knowledge → Order → Type 0
 IsTimelyOrder me k (Resend kind x) = IsRepeatable me k kind x.round
 IsTimelyOrder me k (Reveal x) = IsRepeatable me k kinds.Divulge x.round
@@ -64,7 +64,7 @@ timely_open : (me : Member) (k : Knowledge) (x : Exchange) → IsRecent me k x.r
 timely_open me k x recent =
     when-all (IsTimelyOrder me k) (not (k.is_announced (partner_in me x))) (again me k x) (λ _. timely_again me k x recent)
 
--- so it is with what stands for these orders
+-- the same holds for the messages of these orders
 pub again_is_timely : (me : Member) (k : Knowledge) (x : Exchange) (says : List Say) → IsRecent me k x.round
     → map (λ say. order_again say.kind say.x) says ≡ orders_of_open me k x → AllByRecursion (IsTimely me k) says
 again_is_timely me k x says recent is =

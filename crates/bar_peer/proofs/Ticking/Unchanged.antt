@@ -1,4 +1,4 @@
--- What stands before orders: the same parties were announced evicted, and the same evidence was kept; before requests the same owed keys.
+-- What orders don't change: announced evictions and kept evidence; for requests, also the owed keys.
 use Rattle.std.proofs.Common.{◌≡◌, ℕ, ◌∙◌, Bool, true, false, not, ◌||◌, List, [], ◌∷◌, Option, Some, None, is_some, refl, ap, arith}
 use Rattle.std.specs.Option.{option_or}
 use Rattle.bar_window.specs.declared.exchange.Exchange.{Exchange}
@@ -19,7 +19,7 @@ use Rattle.bar_rules.specs.Peer.Ticks.{asking_partner}
 use Rattle.bar_rules.specs.Secrets.{partner_of, seed_of}
 use Rattle.bar_laws.proofs.Logs.{debts-stay}
 use Rattle.bar_laws.proofs.Memory.{learned}
-use Rattle.bar_peer.specs.Ticking.{is_unasked}
+use Rattle.bar_peer.specs.Code.Ticking.{is_unasked}
 use Rattle.bar_peer.proofs.Orders.Growth.{state_after_order, grows}
 
 with_none : {X : Type 0} (o : Option X) → is_some (option_or o None) ≡ is_some o
@@ -41,7 +41,7 @@ evidence_after me out (o ∷ os) party = evidence_after me (perform me out o) os
 
 -- ---- requests of this round
 
--- asking for an exchange changes no debt
+-- asking for an exchange doesn't change debts
 owes_after : (me : Member) (out : Out) (x : Exchange) (party : ℕ) → x.round ≡ this_round (known me out.state)
     → owes me (known me (perform me out (Ask x)).state) party ≡ owes me (known me out.state) party
 owes_after me out x party now = go ((known me out.state).said (request_kind x.kind) x (role_of me x))
@@ -61,7 +61,7 @@ owes_after me out x party now = go ((known me out.state).said (request_kind x.ki
     go (Some d) = refl
     go None = said x.kind
 
--- so the same parties aren't asked once the partner was
+-- so the same parties aren't asked after a partner was asked
 pub unasked_after : (me : Member) (out : Out) (before : Knowledge) (round : ℕ) (kind : XKind) (party : ℕ)
     → round ≡ this_round (known me out.state)
     → is_unasked me (known me (perform_all me out (asking_partner me before round kind)).state) party

@@ -31,7 +31,8 @@ pub const SESSION: &str = "\
     key = \"00000006000000043c10f6e8c18369c3c53c2badac73d0b0c70c4a82a7d0386c1ddd76023b7f3f0cc812d129a73318dc02a0365a93ff50f1\"\n\
     anchor = \"89bf2ea3e09893d7ab2c83015f1d8f757da445c3a9ee3700311dccb3a7cf9b0b\"\n\n";
 
-/// Evidence of one CASE, with the manifest of a round in whose list an update of its terms stands past the end. It shows `party 3 fault F2`.
+/// Evidence of one CASE, with the manifest of a round. An update in the terms of the CASE is past the end of the manifest's list. The
+/// evidence shows `party 3 fault F2`.
 pub const PROOF: &str = "\
     4241525001010681ba470101901ec6084ccea9430000ffff0000000306339aa383502f12be004219a43f406c3cfece6b516a8ad887d5d5ea411d21a57292df7e\
     aa581a8feb77f21d4c88d0d6876869b3d8e602f157640782da5a0c59e264504f86ba6c89fe19cf18491abd296570c96af0fff42edc8131569d0456cd44b94844\

@@ -38,7 +38,7 @@ abbrev pub send_all : Outcome Log → List ℕ → Datagram → Outcome Log
 send_all out [] d = out
 send_all out (p ∷ ps) d = send_all (sending out p d) ps d
 
--- a signed message to all that are served: what was said of its kind and round, or a new one
+-- sends a signed message to all served peers: the one already signed for its kind and round, or a new one
 abbrev pub announce_by : Member → Outcome Log → ℕ → Body → Option Datagram → Outcome Log
 announce_by me out leaf body (Some d) = send_all out (served me.session out.state) d
 announce_by me out leaf body None =
@@ -56,7 +56,7 @@ announce_evictions me m out =
     let parties : List ℕ = evicted me.session out.state in
     if nat_lt 0 (length parties) then announce me out (2 * (m - 1) + 1) m (Evict m parties) else out
 
--- a manifest that was said goes out again
+-- a manifest that was signed before is sent again
 abbrev pub repeat_all : Session → Outcome Log → Option Datagram → Outcome Log
 repeat_all s out None = out
 repeat_all s out (Some d) = send_all out (served s out.state) d
@@ -64,7 +64,7 @@ repeat_all s out (Some d) = send_all out (served s out.state) d
 abbrev pub repeat_manifest : Session → ℕ → Outcome Log → Outcome Log
 repeat_manifest s round out = repeat_all s out (first_said (has_kind_and_round kinds.Manifest round) out.state)
 
--- in version 3 that of the round before, up to the round after the last
+-- in version 3 the manifest of the round before is sent again, up to the round after the last
 abbrev pub repeats_manifest : Session → ℕ → Bool
 repeats_manifest s m = is_third s.shape && (nat_le 2 m && nat_le m (s.shape.rounds + 1))
 
@@ -89,7 +89,7 @@ caster_tick me stream out =
     else (if (slot == 1) || (slot == 5) then send_blocks me m 0 (round_blocks me.session stream m) out
     else out))))
 
--- the party that evidence names is evicted, once
+-- the party that the verdict names is evicted, unless it already was
 abbrev pub evict_by : Log → List (List ℕ) → Verdict → Log
 evict_by log evidence (Shown party fault) = if is_some (kept log party) then log else Kept party evidence ∷ log
 evict_by log evidence (NotShown why) = log
@@ -110,7 +110,7 @@ unfoldable pub caster_step : Member → List ℕ → Log → Input → Outcome L
 caster_step me stream log input =
     if nat_le (last_tick me.session) (ticks log) then begun log else caster_take me stream log input
 
--- what a run from the start leaves, and what it sends
+-- the log that a run from the start leaves, and what the run sends
 abbrev pub caster_log_after : Member → List ℕ → List Input → Log
 caster_log_after me stream inputs = state_after (caster_step me stream) [] inputs
 

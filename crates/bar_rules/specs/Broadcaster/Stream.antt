@@ -1,4 +1,4 @@
--- The stream cut into blocks, the manifests of its rounds, and the peers to which an update goes.
+-- The stream cut into blocks, the manifests of its rounds, and the peers to which an update is sent.
 use Rattle.std.specs.Prelude.{ℕ, ◌+◌, ◌-◌, ◌*◌, ◌&&◌, Bool, List, ◌++◌, length, map, filter, replicate, slice_range, nat_le, nat_lt, codes}
 use Rattle.std.specs.List.{range_with_len}
 use Rattle.std.specs.Ordering.{ordering_then, is_lt, nat_cmp}
@@ -29,7 +29,7 @@ round_blocks s stream round =
 abbrev pub manifest_list : Session → List ℕ → ℕ → List (List ℕ)
 manifest_list s stream round = map sha256 (round_blocks s stream round)
 
--- the broadcaster's table: the rounds so far
+-- the broadcaster's table: the manifests of the rounds so far
 abbrev pub caster_table : Member → List ℕ → Log → Table
 caster_table me stream log =
     λ r. then_some (nat_le 1 r && (nat_le r (round_now log) && nat_le r me.session.shape.rounds)) (manifest_list me.session stream r)
@@ -41,7 +41,7 @@ peers_of s = range_with_len 1 s.shape.peers
 unfoldable pub rank_of : Member → UpdateId → ℕ → List ℕ
 rank_of me u p = tagged (codes "FAN1") me.session.shape.id (u32_bytes u.round ++ u8_bytes u.index ++ u16_bytes p ++ me.secret)
 
--- a peer stands before another: by the hash, in the order of byte strings, and where these are equal by its number
+-- a peer precedes another: by the hash, in the order of byte strings, and by number if the hashes are equal
 abbrev pub ranks_before : Member → UpdateId → ℕ → ℕ → Bool
 ranks_before me u q p = is_lt (ordering_then (slice_cmp nat_cmp (rank_of me u q) (rank_of me u p)) (nat_cmp q p))
 

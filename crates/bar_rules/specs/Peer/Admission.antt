@@ -29,7 +29,7 @@ use Rattle.bar_rules.specs.Peer.Debts.{owes}
 use Rattle.bar_rules.specs.Peer.Terms.{terms_of}
 use Rattle.bar_rules.specs.Peer.Choices.{wanted_of}
 
--- the kinds that go to all peers; every other kind goes to one party
+-- the kinds that are sent to all peers; every other kind is sent to one party
 abbrev pub is_to_all : Body → Bool
 is_to_all (Manifest round digests) = true
 is_to_all (Evict round parties) = true
@@ -38,7 +38,7 @@ is_to_all _ = false
 abbrev pub is_for : Member → Message → Bool
 is_for me m = if is_to_all m.body then m.to == everyone else m.to == me.party
 
--- where the kind is signed, the signature is accepted under the sender's key
+-- if the kind is signed, the signature is accepted under the sender's key
 abbrev pub has_valid_signature : Session → Datagram → Bool
 has_valid_signature s d = if is_signed d.message.body then is_signed_by s d else true
 
@@ -49,18 +49,19 @@ is_named_again k None (Manifest round digests) = is_some (k.manifest round)
 is_named_again k None (Evict round parties) = k.has_evict round
 is_named_again k None _ = false
 
--- of a signed kind, one datagram of each name is admitted
+-- a datagram of a signed kind has the name of one that was admitted
 abbrev pub is_heard_again : Knowledge → Message → Bool
 is_heard_again k m = is_signed m.body && is_named_again k (place_of m) m.body
 
--- a block has the digest that the table says
+-- a block has the digest that the table lists for it
 abbrev pub has_digest : Digest → List ℕ → Bool
 has_digest (Known d) block = bytes_eq (sha256 block) d
 has_digest PastEnd block = false
 has_digest NoManifest block = false
 
--- the sender may ask this member for an exchange of this kind: it has the seed of the round, which chooses this member, and fewer requests
--- of the round and kind were admitted than there are seats, a round early at most; and it owes this member no key
+-- The sender may ask this member for an exchange of this kind. It has the seed of the round, which chooses this member, and it owes this
+-- member no key. Fewer requests of the round and kind were admitted than there are seats. The request is in time, and at most one round
+-- early.
 abbrev pub may_ask : Member → Knowledge → XKind → ℕ → ℕ → List ℕ → Bool
 may_ask me k kind from round seed =
     is_seed me.session from round seed
@@ -91,12 +92,12 @@ meets_commitment me k x nonce ha =
     option_map_or (λ c. bytes_eq c (commitment_of me.session x nonce ha))
     (option_and_then commitment_in (body_heard k kinds.Request x Initiator)) false
 
--- the terms that an answer makes with the offer that was said
+-- the terms made of the offer that was said and an answer
 abbrev pub terms_with : Option (List UpdateId × List UpdateId) → List UpdateId → List UpdateId → ℕ → Option Terms
 terms_with None want give junk = None
 terms_with (Some q) want give junk = Some (forms.Push q.0 q.1 want give junk)
 
--- the row of each kind, for a message of this body from one party to another; the bound on the round stands last
+-- the row of each kind, for a message of this body from one party to another; the bound on the round is tested last
 abbrev pub is_row_met : Member → Knowledge → ℕ → ℕ → Body → Bool
 is_row_met me k from to (Manifest round digests) = nat_le round (this_round k + 1) && is_alive me.session round (this_round k)
 is_row_met me k from to (Block u block) =

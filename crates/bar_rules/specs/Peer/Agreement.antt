@@ -1,4 +1,4 @@
--- What a peer must still know: whatever agrees with it in this much gets the same replies.
+-- What a peer must still know: knowledge that agrees with it in this much gets the same replies.
 use Rattle.std.specs.Prelude.{◌≡◌, ℕ, ◌+◌, ◌-◌, ◌≤◌, true, Option, Some, is_some, option_map}
 use Rattle.bar_window.specs.declared.update.UpdateId.{UpdateId}
 use Rattle.bar_window.specs.declared.exchange.Exchange.{Exchange}
@@ -16,13 +16,13 @@ use Rattle.bar_rules.specs.Peer.Knowledge.{Knowledge, table_of, this_round, answ
 abbrev pub IsRecent : Member → Knowledge → ℕ → Type 0
 IsRecent me k round = this_round k ≤ round + me.session.shape.life
 
--- an update of this round may still be asked about: it stands in a window of an exchange for which a briefcase may still be sealed, two
--- rounds back at most, or is to be played
+-- An update of this round may still be asked about, or is still to be played. It may be asked about if it is in a window of an exchange for
+-- which a briefcase may still be sealed, at most two rounds back.
 abbrev pub IsFresh : Member → Knowledge → ℕ → Type 0
 IsFresh me k round = this_round k ≤ round + me.session.shape.life + (answer_deadline - 1)
 
--- How many rounds after its own what was said of a kind is still told whole. A CASE is sent again for fewer rounds than its exchange may be
--- asked about, and its blocks are held no longer.
+-- For how many rounds after its own a datagram that was said is still represented in full, by its kind. A CASE is sent again for fewer
+-- rounds than its exchange may be asked about, and its blocks are held only that long.
 abbrev pub told_for : Session → Kind → ℕ
 told_for s kinds.Case = deadline s kinds.Case
 told_for s _ = s.shape.life
@@ -31,16 +31,16 @@ told_for s _ = s.shape.life
 abbrev pub IsRepeatable : Member → Knowledge → Kind → ℕ → Type 0
 IsRepeatable me k kind round = this_round k ≤ round + told_for me.session kind
 
--- what is read of a CASE that was said as long as its exchange may be asked about: by which terms, on which side
+-- what is still read of a CASE that was said while its exchange may be asked about: its terms and its side
 abbrev pub promised_by : Datagram → Option (Terms × Role)
 promised_by d = option_map (λ c. (c.terms, c.role)) (briefcase_in d.message.body)
 
 abbrev pub promise_of : Knowledge → Exchange → Role → Option (Option (Terms × Role))
 promise_of k x role = option_map promised_by (k.said kinds.Case x role)
 
--- The two agree in their ticks, in the lists of their manifests and the rounds that have one, in evictions, in the evidence kept, in the
--- blocks of fresh updates, in what was heard and counted of recent rounds, and in what was said: whole while it may be sent again, and of a
--- CASE by its terms afterwards.
+-- The two agree in their ticks, the lists of their manifests and the rounds that have one, evictions, the evidence kept, and the blocks of
+-- fresh updates. They agree in what was heard and counted of recent rounds. They agree in what was said: in full while it may be sent
+-- again, and afterwards, for a CASE, in its terms.
 pub record AgreesWith (me : Member) (one two : Knowledge) : Type 0 where
   pub time : one.ticks ≡ two.ticks
   pub table : table_of one ≡ table_of two
@@ -56,5 +56,5 @@ pub record AgreesWith (me : Member) (one two : Knowledge) : Type 0 where
   pub seats : (x : Exchange) → IsRecent me one x.round → one.seat x ≡ two.seat x
   pub requests : (kind : XKind) (round : ℕ) → IsRecent me one round → one.asked kind round ≡ two.asked kind round
   pub opens : one.opens ≡ two.opens
-  -- what the second has as heard of an exchange is of it
+  -- what the second has heard under a kind, exchange and side is of them
   pub own : (kind : Kind) (x : Exchange) (role : Role) (d : Datagram) → two.heard kind x role ≡ Some d → is_of kind x role d.message ≡ true

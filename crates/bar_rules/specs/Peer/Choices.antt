@@ -10,7 +10,7 @@ use Rattle.bar_rules.specs.Peer.Knowledge.{Knowledge, table_of, holds}
 abbrev pub young_of : Member → Knowledge → ℕ → List UpdateId
 young_of me k round = take me.session.cap (filter (holds k) (updates_from me.session (max 1 (round - 1)) round))
 
--- the aged ones that it asks for: those within the table that are lacking, of the rounds up to half a life back, an odd life rounded down
+-- the aged updates that it asks for: missing ones within the table, of the rounds up to half a life back, an odd life rounded down
 abbrev pub aged_of : Member → Knowledge → ℕ → List UpdateId
 aged_of me k round =
     take me.session.cap

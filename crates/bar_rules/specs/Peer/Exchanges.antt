@@ -1,4 +1,4 @@
--- What a log tells of the exchanges of a peer: the sides, what an initiator commits to, the seats, and which are open.
+-- What a log shows of a peer's exchanges: their sides, what an initiator commits to, the seats, and which exchanges are open.
 use Rattle.std.specs.Prelude.{◌≡◌, ℕ, ◌+◌, ◌==◌, ◌&&◌, ◌||◌, Bool, true, List, [], ◌∷◌, filter, Option, Some, None, option_map, if◌then◌else◌, nat_le, nat_lt}
 use Rattle.std.specs.Bool.{then_some}
 use Rattle.std.specs.List.{AllByRecursion}
@@ -69,7 +69,7 @@ revealed me log x = earliest (λ before e. revealed_in me before x e) log
 
 -- ---- the exchanges in which a peer signed a message, in order
 
--- whether one exchange stands before another: by round, kind, initiator and responder in turn
+-- whether one exchange precedes another: by round, kind, initiator and responder in turn
 abbrev pub precedes : Exchange → Exchange → Bool
 precedes x y =
     nat_lt x.round y.round
@@ -77,12 +77,12 @@ precedes x y =
     && (nat_lt (kind_code x.kind) (kind_code y.kind)
     || same_kind x.kind y.kind && (nat_lt x.initiator y.initiator || (x.initiator == y.initiator) && nat_lt x.responder y.responder))
 
--- a rising list with one exchange more
+-- a rising list with one more exchange
 abbrev pub inserted : Exchange → List Exchange → List Exchange
 inserted x [] = x ∷ []
 inserted x (y ∷ ys) = if same_exchange x y then y ∷ ys else if precedes x y then x ∷ y ∷ ys else y ∷ inserted x ys
 
--- each stands before all that follow it
+-- each exchange precedes all that follow it
 abbrev pub IsRising : List Exchange → Type 0
 IsRising [] = Unit {0}
 IsRising (x ∷ xs) = AllByRecursion (λ y. precedes x y ≡ true) xs × IsRising xs
@@ -99,7 +99,7 @@ abbrev pub exchanges_said : Log → List Exchange
 exchanges_said [] = []
 exchanges_said (e ∷ log) = with_exchange (exchange_said (said_in e)) (exchanges_said log)
 
--- those of rounds that may still be asked about
+-- the exchanges of rounds that may still be asked about
 abbrev pub recent_of : Session → ℕ → List Exchange → List Exchange
 recent_of s now xs = filter (λ x. nat_le now (x.round + s.shape.life)) xs
 

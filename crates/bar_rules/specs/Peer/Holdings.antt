@@ -24,13 +24,13 @@ case_heard_from log x role = case_in (first_heard (is_of kinds.Case x role) log)
 abbrev pub case_said_by : Log → Exchange → Role → Option Briefcase
 case_said_by log x role = case_in (first_said (is_of kinds.Case x role) log)
 
--- the block of an update that an opened briefcase has, if its opening is good
+-- the block of an update in an opened briefcase, if its opening is good
 abbrev pub block_opened : Session → Table → Exchange → UpdateId → List ℕ → Option Briefcase → Option (List ℕ)
 block_opened s table x u key None = None
 block_opened s table x u key (Some c) = if is_good (opening_of s table x c key) then opened_block s c key u else None
 
--- the block that an admitted datagram adds for an update, in a round, under a table and with the briefcases heard: a key adds those that
--- are alive then
+-- the block that an admitted datagram adds for an update, in a round, under a table and with the briefcases heard; a key adds those that
+-- are alive in that round
 abbrev pub block_by : Session → ℕ → Table → (Exchange → Role → Option Briefcase) → UpdateId → Message → Body → Option (List ℕ)
 block_by s now table cases u m (Block v block) = then_some (same_update u v) block
 block_by s now table cases u m (Key g) =
@@ -53,6 +53,6 @@ block_of s log u = earliest (λ before e. block_in s before u e) log
 abbrev pub is_held : Session → Log → UpdateId → Bool
 is_held s log u = is_some (block_of s log u)
 
--- the held updates of a round's window, by the blocks that are held
+-- the held updates of a round's window, given the blocks that are held
 abbrev pub history : Session → (UpdateId → Option (List ℕ)) → ℕ → List UpdateId
 history s block round = filter (λ u. is_some (block u)) (window_of s round)

@@ -1,4 +1,4 @@
--- What a peer knows: all that its rules read of the past. A log tells it, and so does whatever else keeps as much.
+-- What a peer knows: all that its rules read of the past. A log represents it, and so does any other state that keeps as much.
 use Rattle.std.specs.Prelude.{ℕ, ◌+◌, ◌==◌, ◌||◌, Bool, nat_le, false, List, [], Option, None, is_some, if◌then◌else◌}
 use Rattle.std.specs.Bool.{then_some}
 use Rattle.std.specs.Option.{option_or}
@@ -29,7 +29,7 @@ pub record Knowledge : Type 0 where
   pub is_announced : ℕ → Bool
   -- the evidence that is kept against a party
   pub evidence : ℕ → Option (List (List ℕ))
-  -- the block of an update, where it is held
+  -- the block of an update, if it is held
   pub block : UpdateId → Option (List ℕ)
   -- the first datagram of a kind, exchange and side that was admitted, and the first that was signed
   pub heard : Kind → Exchange → Role → Option Datagram
@@ -60,7 +60,7 @@ nothing = record {
   opens = [];
 }
 
--- what a log tells
+-- the knowledge that a log represents
 abbrev pub known : Member → Log → Knowledge
 known me log = record {
   ticks = ticks log;
@@ -103,7 +103,7 @@ case_said_of k x role = case_in (k.said kinds.Case x role)
 
 -- ---- time
 
--- how many rounds after its own a request may be admitted, asked and answered, and what comes after it up to the CASEs
+-- for how many rounds after its own a request may be admitted, asked and answered; and what follows it up to the CASEs
 abbrev pub request_deadline : ℕ
 request_deadline = 1
 
@@ -130,7 +130,7 @@ is_in_time s k kind round = nat_le (this_round k) (round + deadline s kind)
 abbrev pub with_tick : Member → Knowledge → Knowledge
 with_tick me k = record k { ticks = k.ticks + 1; opens = recent_of me.session (round_after (k.ticks + 1)) k.opens }
 
--- the first datagrams of each kind, exchange and side, with one more
+-- the first datagrams of each kind, exchange and side, after one more datagram
 abbrev pub first_with : Datagram → (Kind → Exchange → Role → Option Datagram) → Kind → Exchange → Role → Option Datagram
 first_with d firsts kind x role = option_or (firsts kind x role) (then_some (is_of kind x role d.message) d)
 

@@ -1,4 +1,4 @@
--- What a peer does at each input, over whatever keeps what it knows: its log, or the knowledge alone.
+-- What a peer does at each input, over any state that represents what it knows: its log, or the knowledge alone.
 use Rattle.std.specs.Prelude.{ℕ, true, false, List, [], ◌∷◌, Option, Some, None, nat_le, option_map, if◌then◌else◌}
 use Rattle.bar_rules.specs.Peer.Evidence.{new_evidence}
 use Rattle.bar_window.specs.declared.exchange.Exchange.{Exchange}
@@ -21,16 +21,16 @@ use Rattle.bar_rules.specs.Peer.Orders.{Order, Ask, Answer, Reveal, GiveCase, As
 use Rattle.bar_rules.specs.Peer.Replies.{reply_orders, repeated}
 use Rattle.bar_rules.specs.Peer.Ticks.{orders_at_tick, contents_at_tick}
 
--- how a state tells what is known, and takes one more entry
+-- how a state represents what is known, and takes one more entry
 pub record Keeping (S : Type 0) : Type 0 where
   pub reads : S → Knowledge
   pub adds : Entry → S → S
 
--- by a log
+-- the state is a log
 abbrev pub logs : Member → Keeping Log
 logs me = record { reads = known me; adds = λ e log. e ∷ log }
 
--- by what is known and nothing else
+-- the state is the knowledge itself
 abbrev pub minds : Member → Keeping Knowledge
 minds me = record { reads = λ k. k; adds = with_entry me }
 
@@ -46,7 +46,7 @@ say_new w me out x (Some body) =
     let d : Datagram = signed me (w.reads out.state) (message_to me x body) in
     sending (record out { state = w.adds (Said d) out.state }) (partner_in me x) d
 
--- what was said is sent again, else the message is new
+-- what was said is sent again; otherwise the message is new
 abbrev pub say_or_repeat : {S : Type 0} → Keeping S → Member → Outcome S → Exchange → Option Datagram → Option Body → Outcome S
 say_or_repeat w me out x (Some d) body = sending out (partner_in me x) d
 say_or_repeat w me out x None body = say_new w me out x body
@@ -97,7 +97,7 @@ abbrev pub report_new : {S : Type 0} → Keeping S → Member → Outcome S → 
 report_new w me out q None = out
 report_new w me out q (Some evidence) = perform w me out (Report q)
 
--- evidence is kept first, which admission doesn't read, and is reported last
+-- Evidence is kept first, as admission doesn't read it, and is reported last.
 abbrev pub take_datagram : {S : Type 0} → Keeping S → Member → S → Option Datagram → Outcome S
 take_datagram w me s None = begun s
 take_datagram w me s (Some d) =

@@ -31,7 +31,7 @@ pub data Order : Type 0 where
   GiveCase : Exchange → Order
   AskKey : Exchange → Order
   GiveKey : Exchange → Order
-  -- what was said of this kind, again
+  -- the datagram of this kind that was said, again
   Resend : Kind → Exchange → Order
   -- EVIDENCE
   Report : ℕ → Order
@@ -47,7 +47,7 @@ abbrev pub reply_body : Member → Knowledge → ℕ → List UpdateId × List U
 reply_body me k r q =
     Reply r (wanted_of me k q.0) (given_of me k q.0 q.1) (length (wanted_of me k q.0) - length (given_of me k q.0 q.1))
 
--- a REPLY is said where something is wanted
+-- a REPLY is said if something is wanted
 abbrev pub reply_to : Member → Knowledge → ℕ → List UpdateId × List UpdateId → Option Body
 reply_to me k r q = then_some (nat_lt 0 (length (wanted_of me k q.0))) (reply_body me k r q)
 

@@ -16,7 +16,7 @@ use Rattle.bar_rules.specs.Peer.Knowledge.{Knowledge, is_in_time}
 use Rattle.bar_rules.specs.Peer.Terms.{terms_of}
 use Rattle.bar_rules.specs.Peer.Orders.{Order, Answer, Reveal, GiveCase, AskKey, GiveKey}
 
--- a balanced exchange goes on where each side lacks something of the other's
+-- a balanced exchange continues if each side lacks something that the other has
 abbrev pub is_trade_worth : Session → Option Terms → Bool
 is_trade_worth s None = false
 is_trade_worth s (Some (forms.Balanced nonce ha hb)) = nat_le 1 (trade_count s.cap ha hb)
@@ -25,7 +25,7 @@ is_trade_worth s (Some (forms.Push young aged want give junk)) = true
 abbrev pub orders_when : Bool → List Order → List Order
 orders_when b os = if b then os else []
 
--- the orders for a datagram that was admitted now, or that comes again; the log has it already
+-- the orders for a datagram that was just admitted or is repeated; the log contains it already
 abbrev pub orders_for : Member → Knowledge → Bool → ℕ → ℕ → Body → List Order
 orders_for me k is_new from to (Request r seed c) =
     orders_when (is_new || is_in_time me.session k kinds.Request r) (Answer (exchange_by r Balanced Initiator from to) ∷ [])

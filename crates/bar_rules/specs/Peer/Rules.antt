@@ -1,4 +1,4 @@
--- The logs of obedient peers: each entry was allowed by what stood before it.
+-- The logs of obedient peers: each entry was allowed by the log before it.
 use Rattle.std.specs.Prelude.{◌≡◌, ℕ, true, List, [], ◌∷◌, Some, None}
 use Rattle.bar_rules.specs.Peer.Evidence.{accuses}
 use Rattle.bar_wire.specs.Datagram.{Datagram}

@@ -1,4 +1,4 @@
--- What a peer may sign, whatever came before in whatever order, and with which leaf.
+-- What a peer may sign, whatever happened before in whatever order, and with which leaf.
 use Rattle.std.specs.Prelude.{◌≡◌, ℕ, ◌-◌, ◌<◌, ◌≤◌, ◌&&◌, Bool, true, false, List, length, Option, Some, None, unwrap_or, option_and_then}
 use Rattle.std.specs.Str.{bytes_eq}
 use Rattle.bar_wire.specs.Bodies.{offer_in}
@@ -33,7 +33,7 @@ abbrev pub windows_within : Member → Knowledge → Terms → Bool
 windows_within me k (forms.Balanced nonce ha hb) = is_within (table_of k) ha && is_within (table_of k) hb
 windows_within me k (forms.Push young aged want give junk) = is_within (table_of k) young && is_within (table_of k) aged
 
--- a REQUEST: in its round, with the round's seed, to the partner that it chooses, who owes no key, committing to the history of this moment
+-- a REQUEST: in its round, with the round's seed, to the partner that the seed chooses, who owes no key, committing to the current history
 pub record MayRequest (me : Member) (k : Knowledge) (to round : ℕ) (seed commitment : List ℕ) : Type 0 where
   pub now : round ≡ this_round k
   pub seeded : seed ≡ seed_of me round
@@ -43,8 +43,8 @@ pub record MayRequest (me : Member) (k : Knowledge) (to round : ℕ) (seed commi
       commitment ≡ commitment_of me.session (asking me round Balanced to) (nonce_of me (asking me round Balanced to))
       (history me.session k.block round)
 
--- a QUERY: in its round, with the round's seed, to the partner that it chooses, who owes no key, offering and asking for what is held and
--- lacking now
+-- a QUERY: in its round, with the round's seed, to the partner that the seed chooses, who owes no key, offering what is held and asking for
+-- what is missing now
 pub record MayQuery (me : Member) (k : Knowledge) (to round : ℕ) (seed : List ℕ) (young aged : List UpdateId) : Type 0 where
   pub now : round ≡ this_round k
   pub seeded : seed ≡ seed_of me round
@@ -54,12 +54,12 @@ pub record MayQuery (me : Member) (k : Knowledge) (to round : ℕ) (seed : List 
   pub asks : aged ≡ aged_of me k round
   pub some_young : 0 < length young
 
--- a RESPONSE: to a REQUEST that was heard, with the history of this moment
+-- a RESPONSE: to a REQUEST that was heard, with the current history
 pub record MayRespond (me : Member) (k : Knowledge) (to round : ℕ) (hb : List UpdateId) : Type 0 where
   pub asked : has_heard_of k kinds.Request (exchange_by round Balanced Responder me.party to) Initiator ≡ true
   pub held : hb ≡ history me.session k.block round
 
--- a REPLY: to a QUERY that was heard, wanting something, with what is wanted and given by the holdings of this moment
+-- a REPLY: to a QUERY that was heard, wanting something; the current holdings determine what is wanted and given
 pub record MayReply (me : Member) (k : Knowledge) (to round : ℕ) (want give : List UpdateId) (junk : ℕ) : Type 0 where
   pub young : List UpdateId
   pub aged : List UpdateId
@@ -71,7 +71,7 @@ pub record MayReply (me : Member) (k : Knowledge) (to round : ℕ) (want give : 
   pub gives : give ≡ given_of me k young aged
   pub pads : junk ≡ length want - length give
 
--- a CASE: with the complete terms, which are valid and within the table, the counts of the promise, sealed with the derived key
+-- a CASE: with the complete terms, which are valid and within the table, and the counts of the promise, sealed with the derived key
 pub record MayGiveCase (me : Member) (k : Knowledge) (to : ℕ) (c : Briefcase) : Type 0 where
   pub terms : terms_of me k (exchange_by c.round c.kind c.role me.party to) ≡ Some c.terms
   pub valid : terms_ok me.session (table_of k) (exchange_by c.round c.kind c.role me.party to) c.terms ≡ true
@@ -81,7 +81,7 @@ pub record MayGiveCase (me : Member) (k : Knowledge) (to : ℕ) (c : Briefcase) 
       c.cipher ≡ sealed me.session (exchange_by c.round c.kind c.role me.party to) c.terms c.role
       (briefcase_key me (exchange_by c.round c.kind c.role me.party to) c.role) k.block
 
--- a KEY: where the own CASE is said and the partner's is heard, with the same terms and the counts of its promise; the derived key
+-- a KEY: the derived key, if the own CASE is said and the partner's is heard, with the same terms and the counts of its promise
 pub record MayGiveKey (me : Member) (k : Knowledge) (to : ℕ) (g : KeyGiven) : Type 0 where
   pub ours : Briefcase
   pub theirs : Briefcase
@@ -103,7 +103,7 @@ MaySay me k to _ = ⊥
 abbrev pub has_same_identity : Message → Message → Bool
 has_same_identity m n = bytes_eq (identity_of n) (identity_of m)
 
--- An obedient peer may sign this message at this moment: none of its identity is said, its round is one of the session, and its row holds.
+-- An obedient peer may sign this message now: none of its identity is said, its round is one of the session, and its row holds.
 pub record MaySign (me : Member) (log : Log) (m : Message) : Type 0 where
   pub mine : m.from ≡ me.party
   pub once : has_said (has_same_identity m) log ≡ false

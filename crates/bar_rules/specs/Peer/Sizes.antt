@@ -1,4 +1,4 @@
--- How many bytes the datagrams of each kind have at the most.
+-- The most bytes that datagrams of each kind have.
 use Rattle.std.specs.Prelude.{ℕ, ◌+◌, ◌*◌, max}
 use Rattle.bar_window.specs.Limits.{block_size, largest_cipher}
 use Rattle.bar_wire.specs.Grammar.{signature_len}
@@ -8,7 +8,7 @@ use Rattle.bar_wire.specs.declared.kind.Kind.{Kind}
 use Rattle.bar_wire.specs.declared.kind.Kind.TheVariants as kinds
 use Rattle.bar_wire.specs.declared.shape.Shape.{Shape}
 
--- the most bytes of the fields after the header: the largest CASE has junk alone
+-- the most bytes of the fields after the header; the largest CASE contains junk only
 abbrev pub most_fields : Shape → Kind → ℕ
 most_fields s kinds.Manifest = 5 + 32 * s.per_round
 most_fields s kinds.Block = 5 + block_size
@@ -26,6 +26,6 @@ most_fields s kinds.Evict = 5 + 2 * s.peers
 abbrev pub largest : Shape → Kind → ℕ
 largest s kind = header_len + most_fields s kind + signature_len s kind
 
--- the most bytes of evidence: a count, and two datagrams of kinds that peers sign behind their lengths, of which a CASE is the largest
+-- the most bytes of evidence: a count, and two datagrams of kinds that peers sign, each after its length; the largest is a CASE
 abbrev pub most_evidence : Shape → ℕ
 most_evidence s = 1 + 2 * (2 + largest s kinds.Case)

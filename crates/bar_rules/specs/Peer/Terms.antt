@@ -20,7 +20,7 @@ use Rattle.bar_rules.specs.Peer.Knowledge.{Knowledge, case_heard_of, case_said_o
 
 -- ---- terms
 
--- what was said or heard of a kind, by a side of an exchange: what this member said where the side is its own, else what it heard
+-- the datagram of a kind from a side of an exchange: what this member said if the side is its own, else what it heard
 abbrev pub first_on : Member → Knowledge → Kind → Exchange → Role → Option Datagram
 first_on me k kind x role = if same_role (role_of me x) role then k.said kind x role else k.heard kind x role
 
@@ -65,7 +65,7 @@ pub record Totals : Type 0 where
   pub received : ℕ
   pub opened : ℕ
 
--- totals, where the keys of the exchange that were sent are told
+-- the totals, given whether this member's key of the exchange was sent
 abbrev pub totals_with : Member → Knowledge → Exchange → Bool → Totals
 totals_with me k x key_sent = record {
   promised = promise_size me.session (case_said me k x);
@@ -73,6 +73,6 @@ totals_with me k x key_sent = record {
   opened = if key_sent then promise_size me.session (case_said me k x) else 0;
 }
 
--- a key is sent exactly where it was signed
+-- a key is sent if and only if it was signed
 abbrev pub totals : Member → Knowledge → Exchange → Totals
 totals me k x = totals_with me k x (has_said_of k kinds.Key x (role_of me x))

@@ -33,7 +33,7 @@ abbrev pub reveals : XKind → Role → Exchange → List Order
 reveals Balanced Initiator x = Reveal x ∷ []
 reveals _ _ x = []
 
--- this member asked and has no answer
+-- this member asked and has no answer yet
 abbrev pub lacks_answer : Member → Knowledge → Exchange → Bool
 lacks_answer me k x =
     is_initiator (role_of me x) && not (has_heard_of k (answer_kind x.kind) x Responder) && is_in_time me.session k kinds.Request x.round
@@ -45,15 +45,15 @@ lacks_partners_case me k x = not (has_heard_of k kinds.Case x (other_role (role_
 abbrev pub lacks_keys : Member → Knowledge → Exchange → Bool
 lacks_keys me k x = not (has_said_of k kinds.Key x (role_of me x) || has_heard_of k kinds.Key x (other_role (role_of me x)))
 
--- Its own CASE is said, and as far as is known the partner may lack it: the partner's CASE isn't heard. In version 3: no KEY is said, which
--- only a partner with both CASEs asks for, or heard.
+-- This member's CASE is said, and the partner may lack it. In versions 1 and 2 this is so if the partner's CASE isn't heard. In version 3
+-- it is so if no KEY is heard, and none is said, as only a partner with both CASEs asks for one.
 abbrev pub lacks_case : Member → Knowledge → Exchange → Bool
 lacks_case me k x =
     has_said_of k kinds.Case x (role_of me x)
     && (if is_third me.session.shape then lacks_keys me k x else lacks_partners_case me k x)
     && is_in_time me.session k kinds.Case x.round
 
--- its own CASE is said and the partner's is heard, but no KEY is
+-- its own CASE is said and the partner's is heard, but the partner's KEY isn't
 abbrev pub lacks_key : Member → Knowledge → Exchange → Bool
 lacks_key me k x =
     has_said_of k kinds.Case x (role_of me x)
@@ -61,11 +61,11 @@ lacks_key me k x =
     && not (has_heard_of k kinds.Key x (other_role (role_of me x)))
     && is_in_time me.session k kinds.Key x.round
 
--- the CASE, behind the DIVULGE of a balanced initiator that hasn't heard the partner's
+-- the CASE, after the DIVULGE if a balanced initiator hasn't heard the partner's CASE
 abbrev pub case_again : Member → Knowledge → Exchange → List Order
 case_again me k x = orders_when (lacks_partners_case me k x) (reveals x.kind (role_of me x) x) ++ Resend kinds.Case x ∷ []
 
--- what waits for an answer; else the CASE and what asks for a KEY, of which in versions 1 and 2 one stands at most
+-- the request, if it waits for an answer; else the CASE and the request for a KEY, of which at most one is due in versions 1 and 2
 abbrev pub again : Member → Knowledge → Exchange → List Order
 again me k x =
     if lacks_answer me k x then Resend (request_kind x.kind) x ∷ []
@@ -86,8 +86,8 @@ new_requests me k round =
 abbrev pub reports : Member → Knowledge → List Order
 reports me k = map Report (filter (λ q. is_some (k.evidence q) && not (k.is_announced q)) (range_with_len 1 me.session.shape.peers))
 
--- what is sent again for each open exchange whose partner isn't announced evicted; at slot 0 of a round of the session its requests; at
--- slot 7 the reports
+-- what is sent again for each open exchange whose partner isn't announced evicted; at slot 0 of a round of the session, the round's
+-- requests; at slot 7, the reports
 abbrev pub orders_at_tick : Member → Knowledge → List Order
 orders_at_tick me k =
     flat_map (λ x. orders_when (not (k.is_announced (partner_in me x))) (again me k x)) k.opens
@@ -97,13 +97,13 @@ orders_at_tick me k =
 
 -- ---- played contents
 
--- The content of a block: behind its length, a number of two bytes, as many bytes. A length above the largest plays nothing.
+-- The content of a block: its length, a number of two bytes, and then as many bytes. A length above the largest plays nothing.
 abbrev pub content_of : List ℕ → List (List ℕ)
 content_of block =
     let len = first_u16 block in
     if nat_le len largest_content then slice_range block 2 (2 + len) ∷ [] else []
 
--- the content of an update, where it is held
+-- the content of an update, if it is held
 abbrev pub content_at : Member → Knowledge → UpdateId → List (List ℕ)
 content_at me k u = flat_map content_of (option_to_list (k.block u))
 
@@ -111,7 +111,7 @@ content_at me k u = flat_map content_of (option_to_list (k.block u))
 unfoldable pub contents_of_round : Member → Knowledge → ℕ → List (List ℕ)
 contents_of_round me k round = flat_map (content_at me k) (updates_of me.session round)
 
--- at the first slot of a round the updates are played that were released as many rounds before as an update lives
+-- at the first slot of a round, the updates released one life before are played
 abbrev pub contents_at_tick : Member → Knowledge → List (List ℕ)
 contents_at_tick me k =
     let round = this_round k - me.session.shape.life in

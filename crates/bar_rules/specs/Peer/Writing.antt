@@ -1,4 +1,4 @@
--- What a message of an exchange would say by what is known now.
+-- What a message of an exchange would say, given what is known now.
 use Rattle.std.specs.Prelude.{ℕ, List, Option, Some, None, option_map, option_and_then}
 use Rattle.bar_wire.specs.Bodies.{history_in, offer_in, reply_in}
 use Rattle.bar_window.specs.declared.exchange.Exchange.{Exchange}
@@ -26,9 +26,9 @@ answer_of me k x = option_and_then history_in (body_on me k kinds.Response x Res
 abbrev pub reply_of : Member → Knowledge → Exchange → Option (List UpdateId × List UpdateId × ℕ)
 reply_of me k x = option_and_then reply_in (body_on me k kinds.Reply x Responder)
 
--- The body that a message of this member's side of an exchange has, by what is known now:
--- a REQUEST by the nonce and the history that it commits to; a QUERY by what it offers and asks for; a RESPONSE by the history that it
--- answers with; a REPLY by what it wants and gives, and its junk; a CASE by the terms, with the blocks that are held now; a KEY by no more.
+-- The body of a message from this member's side of an exchange, by what is known now. A REQUEST depends on the nonce and the history that
+-- it commits to, a QUERY on what it offers and asks for, and a RESPONSE on the history that it answers with. A REPLY depends on what it
+-- wants and gives, and its junk; a CASE on the terms and the blocks that are held now; a KEY on nothing else.
 abbrev pub body_again : Member → Knowledge → Kind → Exchange → Option Body
 body_again me k kinds.Request x =
     option_map (λ a. Request x.round (seed_of me x.round) (commitment_of me.session x a.0 a.1)) (k.revealed x)
@@ -39,11 +39,11 @@ body_again me k kinds.Case x = option_map (case_body me k x) (terms_of me k x)
 body_again me k kinds.Key x = Some (key_body me x)
 body_again me k _ x = None
 
--- the datagram of a body to the partner in an exchange, signed by what is known now
+-- the datagram of a body to the partner in an exchange, signed according to what is known now
 abbrev pub written : Member → Knowledge → Exchange → Option Body → Option Datagram
 written me k x body = option_map (λ b. signed me k (message_to me x b)) body
 
--- the same, and what isn't signed: a DIVULGE by the nonce and the history that are revealed, and a KEYREQ
+-- the same, extended to unsigned kinds: a DIVULGE with the nonce and the history that are revealed, and a KEYREQ
 abbrev pub body_now : Member → Knowledge → Kind → Exchange → Option Body
 body_now me k kinds.Divulge x = option_map (λ a. Divulge x.round a.0 a.1) (k.revealed x)
 body_now me k kinds.KeyReq x = Some (KeyReq x.round x.kind (role_of me x))

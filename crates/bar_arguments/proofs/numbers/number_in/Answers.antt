@@ -12,7 +12,7 @@ use Rattle.bar_arguments.proofs.numbers.number_in.Goals as goal
 own : IsNumeralModel (λ ds. list_all is_ascii_digit ds ≡ true) (digits_value 10)
 own = numerals_by_value _ (search rules)
 
--- a numeral has digits alone, and at least one
+-- a numeral has at least one digit
 some : (word : List ℕ) → is_numeral word ≡ true → 0 < length word
 some [] h = absurd (false≢true h)
 some (digit ∷ digits) h = omega arith
@@ -21,7 +21,7 @@ digits_alone : (word : List ℕ) → is_numeral word ≡ true → list_all is_as
 digits_alone [] h = absurd (false≢true h)
 digits_alone (digit ∷ digits) h = h
 
--- digits that the parse refuses write a number past every range
+-- digits that the parser refuses represent a number above every range
 past : {E : Type 0} (low high : ℕ) (word : List ℕ) (r : Result ℕ E) (e : E) → high < 2 ^ 64 → is_numeral word ≡ true → ParsesUnsigned 64 10 word r → r ≡ Err e
     → None ≡ number_in low high word
 past low high word r e fits numeral parsed failed =

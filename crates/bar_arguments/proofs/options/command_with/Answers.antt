@@ -17,7 +17,7 @@ unfolding options_of
 loop-name-init c =
     ap app_of_fields c.disable_help_flag-command.ensures ∙ ap helpless (ap app_of_fields c.no_binary_name.ensures ∙ ap bare c.new.ensures.app)
 
--- what stands past the names
+-- the default past the end of the names
 nameless : Bor (List ℕ)
 nameless = record { ref_ptr = (0, 0); now = [] }
 

@@ -9,7 +9,7 @@ use Rattle.bar_arguments.proofs.ValueLemmas.{values-found}
 use Rattle.bar_arguments.proofs.OptionLemmas.{options-simple, options-simple_and_free}
 use Rattle.bar_arguments.proofs.options.taken.Goals as goal
 
--- a kind that is among them isn't in an empty list
+-- a list that contains a kind isn't empty
 some_kind : (k : ErrorKind) (kinds : List ErrorKind) → IsAmong k kinds → is_empty kinds ≡ false
 some_kind k [] h = absurd h
 some_kind k (x ∷ kinds) h = grind (arith, nat_tests)

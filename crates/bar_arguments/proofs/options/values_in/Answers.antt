@@ -7,7 +7,7 @@ use Rattle.bar_arguments.specs.Options.{texts}
 use Rattle.bar_arguments.proofs.ValueLemmas.{more-at, none-at}
 use Rattle.bar_arguments.proofs.options.values_in.Goals as goal
 
--- what stands past the names
+-- the default past the end of the names
 nameless : Bor (List ℕ)
 nameless = record { ref_ptr = (0, 0); now = [] }
 

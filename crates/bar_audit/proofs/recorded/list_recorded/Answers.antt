@@ -1,6 +1,6 @@
 use Rattle.std.proofs.Common.{rules, ◌≡◌, sym, subst, filter}
 use Rattle.std.proofs.lemmas.List.Kept.{IsStrictlySortedBy-filter}
-use Rattle.bar_audit.specs.Findings.{are_given}
+use Rattle.bar_audit.specs.Code.Findings.{are_given}
 use Rattle.bar_audit.proofs.Order.{rising-from}
 use Rattle.bar_audit.proofs.recorded.list_recorded.Goals as goal
 use Rattle.bar_rules.specs.Peer.Exchanges.{IsRising}

@@ -1,5 +1,5 @@
 use Rattle.std.proofs.Common.{◌≡◌, ◌<◌, ◌^◌, ◌++◌, filter, vec_len}
-use Rattle.bar_audit.specs.Findings.{are_given}
+use Rattle.bar_audit.specs.Code.Findings.{are_given}
 use Rattle.bar_audit.proofs.recorded.list_recorded.Given as goal
 
 abbrev pub invariant-loop-x : goal.invariant-loop-x

@@ -1,5 +1,5 @@
 use Rattle.std.proofs.Common.{◌∙◌, ◌∷◌, ap}
-use Rattle.bar_record.specs.Inputs.{inputs_left}
+use Rattle.bar_record.specs.Code.Inputs.{inputs_left}
 use Rattle.bar_wire.specs.Inputs.{plain_input}
 use Rattle.bar_audit.proofs.Takings.{taken-none, taken-tick, taken-more, taken-within, taken-cases, taken-keys, taken-cost}
 use Rattle.bar_audit.proofs.recording.give_all.Goals as goal

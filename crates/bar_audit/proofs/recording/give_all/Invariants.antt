@@ -1,4 +1,4 @@
-use Rattle.bar_record.specs.Inputs.{inputs_left}
+use Rattle.bar_record.specs.Code.Inputs.{inputs_left}
 use Rattle.bar_audit.proofs.Takings.{Taken}
 use Rattle.bar_audit.proofs.recording.give_all.Given as goal
 

@@ -1,8 +1,8 @@
 use Rattle.std.proofs.Common.{rules, None, ◌≡◌, ◌∙◌, sym}
-use Rattle.bar_judge.specs.Parts.{plain_briefcase}
-use Rattle.bar_wire.specs.Views.{datagram}
-use Rattle.bar_audit.specs.Findings.{case_at}
-use Rattle.bar_audit.specs.Found.{can_be_opened, promised_by}
+use Rattle.bar_judge.specs.Code.Parts.{plain_briefcase}
+use Rattle.bar_wire.specs.Code.Views.{datagram}
+use Rattle.bar_audit.specs.Code.Findings.{case_at}
+use Rattle.bar_audit.specs.Code.Found.{can_be_opened, promised_by}
 use Rattle.bar_audit.proofs.Taken.{nothing-kept, on-ok, case-unopened, case-unsigned, case-taken, none-opens, some-opens, case-put, windows-put}
 use Rattle.bar_audit.proofs.taking.take_case.Goals as goal
 

@@ -2,7 +2,7 @@ use Rattle.std.proofs.Common.{◌≡◌, ◌≤◌, ◌+◌, ◌∙◌, ℕ, tru
 use Rattle.std.proofs.lemmas.Bool.{le-leb, leb-true}
 use Rattle.bar_window.specs.declared.exchange.Exchange.{Exchange}
 use Rattle.bar_window.specs.declared.exchange.Role.TheVariants.{Initiator}
-use Rattle.bar_window.specs.Window.{members}
+use Rattle.bar_window.specs.Code.Window.{members}
 use Rattle.bar_wire.specs.declared.kind.Kind.TheVariants as kinds
 use Rattle.bar_rules.specs.Peer.Admission.{meets_commitment}
 use Rattle.bar_rules.specs.Peer.Agreement.{IsRecent}
@@ -10,7 +10,7 @@ use Rattle.bar_rules.specs.Peer.Knowledge.{has_heard_of, is_in_time}
 use Rattle.bar_rules.specs.Values.{datagram_bytes}
 use Rattle.bar_window.specs.declared.exchange.XKind.TheVariants.{Balanced}
 use Rattle.bar_wire.specs.Datagram.{exchange_by}
-use Rattle.bar_wire.specs.Views.{IsWindowIn}
+use Rattle.bar_wire.specs.Code.Views.{IsWindowIn}
 use Rattle.bar_exchange.proofs.FourTests.{fails_third, first_of_four}
 use Rattle.bar_balanced.proofs.divulge.admits_divulge.Goals as goal
 use Rattle.bar_bytes.proofs.Options.{some-mapped}

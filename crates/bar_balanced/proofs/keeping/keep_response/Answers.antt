@@ -1,5 +1,5 @@
 use Rattle.bar_window.specs.declared.exchange.Role.TheVariants.{Responder}
-use Rattle.bar_window.specs.Window.{members}
+use Rattle.bar_window.specs.Code.Window.{members}
 use Rattle.bar_exchange.proofs.PartKept.{no_entry}
 use Rattle.bar_balanced.proofs.Kept.{response_of, response_learned, no_push}
 use Rattle.bar_balanced.proofs.keeping.keep_response.Goals as goal

@@ -5,23 +5,23 @@ use Rattle.bar_window.specs.declared.exchange.XKind.TheVariants.{Balanced}
 use Rattle.bar_window.specs.declared.terms.Terms.{Terms}
 use Rattle.bar_window.specs.declared.terms.Terms.TheVariants as raw
 use Rattle.bar_window.specs.declared.window.Window.{Window}
-use Rattle.bar_window.specs.Window.{IsWindowOf}
+use Rattle.bar_window.specs.Code.Window.{IsWindowOf}
 use Rattle.bar_window.specs.Terms.{plain_terms}
 use Rattle.bar_wire.specs.Bodies.{history_in, reply_in}
 use Rattle.bar_wire.specs.Datagram.{part_of}
 use Rattle.bar_wire.specs.declared.kind.Kind.{Kind}
 use Rattle.bar_wire.specs.declared.kind.Kind.TheVariants as kinds
-use Rattle.bar_wire.specs.Views.{AreTermWindows, IsWindowIn}
+use Rattle.bar_wire.specs.Code.Views.{AreTermWindows, IsWindowIn}
 use Rattle.bar_rules.specs.Peer.Exchanges.{answer_kind, role_of}
 use Rattle.bar_ledger.specs.declared.entry.Entry.{Entry}
-use Rattle.bar_ledger.specs.Lookups.{commit_of, offer_of}
-use Rattle.bar_ledger.specs.Recalls.{kind_of_terms}
-use Rattle.bar_exchange.specs.Keeping.{IsSaidNow}
+use Rattle.bar_ledger.specs.Code.Lookups.{commit_of, offer_of}
+use Rattle.bar_ledger.specs.Code.Recalls.{kind_of_terms}
+use Rattle.bar_exchange.specs.Code.Keeping.{IsSaidNow}
 use Rattle.bar_exchange.proofs.Marks.{found_by, kept_found}
 use Rattle.bar_exchange.proofs.Said.{placed}
 use Rattle.bar_balanced.proofs.saying.say_response.Goals as goal
 
--- no terms of a push are kept of a balanced exchange
+-- the terms of a balanced exchange aren't those of a push
 no_push : (t : Terms) (x : XKind) → kind_of_terms (plain_terms t) ≡ x → x ≡ Balanced → ((nonce : List ℕ) (ha hb : Window) → t ≡ raw.Balanced nonce ha hb → ⊥) → ⊥
 no_push (raw.Balanced nonce ha hb) x form is not = not nonce ha hb refl
 no_push (raw.Push young aged want give junk) x form is not = absurd (cc)

@@ -1,6 +1,6 @@
 use Rattle.std.proofs.Common.{sym, ap}
 use Rattle.std.specs.Prelude.{option_map}
-use Rattle.bar_exchange.specs.Writing.{bytes_to}
+use Rattle.bar_exchange.specs.Code.Writing.{bytes_to}
 use Rattle.bar_balanced.proofs.Others.{no_body}
 use Rattle.bar_balanced.proofs.writing.write.Goals as goal
 

@@ -1,9 +1,9 @@
 use Rattle.std.proofs.Common.{◌∙◌, ℕ, List, Option, Some, sym, ap, take}
 use Rattle.std.specs.Prelude.{option_map}
-use Rattle.bar_window.specs.Window.{members}
+use Rattle.bar_window.specs.Code.Window.{members}
 use Rattle.bar_window.specs.declared.update.UpdateId.{UpdateId}
 use Rattle.bar_wire.specs.Datagram.{Divulge}
-use Rattle.bar_exchange.specs.Writing.{bytes_to}
+use Rattle.bar_exchange.specs.Code.Writing.{bytes_to}
 use Rattle.bar_balanced.proofs.writing.write_divulge.Goals as goal
 
 pub returns-in_err-nonce-clause-written : goal.returns-in_err-nonce-clause-written

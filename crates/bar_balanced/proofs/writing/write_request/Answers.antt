@@ -1,14 +1,14 @@
 use Rattle.std.proofs.Common.{◌≡◌, ◌∙◌, ℕ, List, Option, Some, sym, ap, take}
 use Rattle.std.specs.Prelude.{option_map}
 use Rattle.bar_window.specs.Places.{words_in}
-use Rattle.bar_window.specs.Window.{members}
+use Rattle.bar_window.specs.Code.Window.{members}
 use Rattle.bar_window.specs.declared.update.UpdateId.{UpdateId}
 use Rattle.bar_wire.specs.Datagram.{Request}
 use Rattle.bar_wire.specs.Grammar.{is_wide}
 use Rattle.bar_seeds.specs.Derived as derived
 use Rattle.bar_rules.specs.Member.{Session}
 use Rattle.bar_rules.specs.Secrets.{seed_of, commitment_of}
-use Rattle.bar_exchange.specs.Writing.{bytes_to}
+use Rattle.bar_exchange.specs.Code.Writing.{bytes_to}
 use Rattle.bar_balanced.proofs.writing.write_request.Goals as goal
 
 pub returns-in_err-nonce-clause-written : goal.returns-in_err-nonce-clause-written

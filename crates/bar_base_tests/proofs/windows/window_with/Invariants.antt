@@ -1,5 +1,5 @@
 use Rattle.std.proofs.Common.{◌≡◌, false}
-use Rattle.bar_window.specs.Window.{IsWindowOf}
+use Rattle.bar_window.specs.Code.Window.{IsWindowOf}
 use Rattle.bar_base_tests.proofs.windows.window_with.Given as goal
 
 abbrev pub invariant-loop-round : goal.invariant-loop-round

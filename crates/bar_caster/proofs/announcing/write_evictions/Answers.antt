@@ -1,4 +1,4 @@
--- The parties of the message are joined to the bytes that are given.
+-- The given bytes are the concatenated parties of the message.
 use Rattle.std.proofs.Common.{◌≡◌, length, ap, ◌∙◌, arith}
 use Rattle.bar_wire.specs.Places.{pairs}
 use Rattle.bar_wire.proofs.FieldLengths.{length_parties}

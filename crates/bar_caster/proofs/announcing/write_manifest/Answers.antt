@@ -1,4 +1,4 @@
--- The digests of the message are joined to the bytes that are given.
+-- The given bytes are the concatenated digests of the message.
 use Rattle.std.proofs.Common.{◌∙◌, arith}
 use Rattle.std.specs.Simd.{first_chunks}
 use Rattle.bar_wire.proofs.Lists.{chunks_joined}

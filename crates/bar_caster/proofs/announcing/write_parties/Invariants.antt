@@ -3,7 +3,7 @@ use Rattle.std.specs.List.{flat_map}
 use Rattle.bar_bytes.specs.Bytes.{u16_bytes}
 use Rattle.bar_caster.proofs.announcing.write_parties.Given as goal
 
--- the parties so far stand at the front
+-- the parties before the current one are written
 abbrev pub invariant-loop-party : goal.invariant-loop-party
 invariant-loop-party l = record {
   place : l.at ≡ 2 * l.party-index;

@@ -1,11 +1,11 @@
--- A message has its header and what its body is written in.
+-- The length of a message is that of the header and the encoded body.
 use Rattle.std.proofs.Common.{◌≡◌, ◌≤◌, ◌+◌, length, sym, ap, ◌∙◌, subst, arith}
 use Rattle.bar_wire.specs.declared.shape.Shape.{Shape}
 use Rattle.bar_wire.specs.Datagram.{Message}
 use Rattle.bar_wire.specs.Grammar.{message_bytes}
 use Rattle.bar_wire.specs.Limits.{largest_datagram}
-use Rattle.bar_wire.specs.Views.{plain}
-use Rattle.bar_wire.specs.Writing.{body_written}
+use Rattle.bar_wire.specs.Code.Views.{plain}
+use Rattle.bar_wire.specs.Code.Writing.{body_written}
 use Rattle.bar_wire.proofs.Written.{written_is, message_len}
 use Rattle.bar_rules.specs.Broadcaster.Sending.{caster_message}
 use Rattle.bar_caster.proofs.announcing.write_to_all.Goals as goal

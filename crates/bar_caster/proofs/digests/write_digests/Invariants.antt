@@ -4,7 +4,7 @@ use Rattle.bar_rules.specs.Broadcaster.Stream.{round_blocks}
 use Rattle.bar_caster.proofs.Manifests.{digests_of}
 use Rattle.bar_caster.proofs.digests.write_digests.Given as goal
 
--- the digests of the blocks so far stand at the front
+-- the digests of the blocks before the current one are written
 abbrev pub invariant-loop-index : goal.invariant-loop-index
 invariant-loop-index l = record {
   place : l.at ≡ 32 * l.index;

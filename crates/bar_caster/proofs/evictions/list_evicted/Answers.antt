@@ -1,5 +1,5 @@
 use Rattle.std.proofs.Common.{◌≡◌, ◌∙◌, ◌+◌, ◌++◌, ◌∷◌, [], is_some, sym, ap, arith}
-use Rattle.bar_bytes.specs.Rooms.{kept_in}
+use Rattle.bar_bytes.specs.Code.Rooms.{kept_in}
 use Rattle.bar_bytes.proofs.Options.{some-copied}
 use Rattle.bar_caster.proofs.Listing.{listed-more, listed-skip}
 use Rattle.bar_caster.proofs.evictions.list_evicted.Goals as goal

@@ -1,7 +1,7 @@
 use Rattle.std.proofs.Common.{◌≡◌, ℕ, ◌+◌, cond, arith, sym, ap, ◌∙◌}
 use Rattle.bar_window.specs.declared.update.UpdateId.{UpdateId}
 use Rattle.bar_rules.specs.Member.{Member}
-use Rattle.bar_caster.specs.Fanout.{AreRanksOf, count_before}
+use Rattle.bar_caster.specs.Code.Fanout.{AreRanksOf, count_before}
 use Rattle.bar_caster.proofs.FanoutLemmas.{counted_more, peers_counted}
 use Rattle.bar_caster.proofs.fanout.count_before.Goals as goal
 use Rattle.bar_caster.proofs.fanout.count_before.Goals.{then-stands_before, else-stands_before}

@@ -1,10 +1,10 @@
 use Rattle.std.proofs.Common.{◌≡◌, ◌≤◌}
 use Rattle.bar_window.specs.declared.update.UpdateId.{UpdateId}
 use Rattle.bar_rules.specs.Member.{Member}
-use Rattle.bar_caster.specs.Fanout.{AreRanksOf, count_before}
+use Rattle.bar_caster.specs.Code.Fanout.{AreRanksOf, count_before}
 use Rattle.bar_caster.proofs.fanout.count_before.Given as goal
 
--- those of the first peers that stand before it are counted
+-- the peers before the current one that precede the peer are counted
 abbrev pub invariant-loop-i : goal.invariant-loop-i
 invariant-loop-i l = record {
   few : l.before ≤ l.i;

@@ -5,8 +5,8 @@ use Rattle.bar_rules.specs.Broadcaster.Sending.{caster_log_after, caster_step}
 use Rattle.bar_rules.specs.Member.{Member}
 use Rattle.bar_rules.specs.Runs.{sends_from}
 use Rattle.bar_rules.specs.Values.{datagram_bytes}
-use Rattle.bar_caster.specs.Core.{caster_rules}
-use Rattle.bar_caster.specs.StandsFor.{Inputs}
+use Rattle.bar_caster.specs.Code.Core.{caster_rules}
+use Rattle.bar_caster.specs.Code.StandsFor.{Inputs}
 use Rattle.bar_caster.proofs.Stepped.{log_more}
 use Rattle.bar_caster.proofs.runs.rules_give_the_run.Goals as goal
 

@@ -7,10 +7,10 @@ use Rattle.bar_rules.specs.Member.{Member}
 use Rattle.bar_rules.specs.Peer.Log.{Log, kept}
 use Rattle.bar_caster.specs.declared.item.Item.{Item}
 use Rattle.bar_caster.specs.declared.item.Item.TheVariants as items
-use Rattle.bar_caster.specs.Fanout.{AreRanksOf}
-use Rattle.bar_caster.specs.Memory.{Represents, member_of}
-use Rattle.bar_caster.specs.Orders.{Orders, orders_to}
-use Rattle.bar_caster.specs.Ticking.{update_now}
+use Rattle.bar_caster.specs.Code.Fanout.{AreRanksOf}
+use Rattle.bar_caster.specs.Code.Memory.{Represents, member_of}
+use Rattle.bar_caster.specs.Code.Orders.{Orders, orders_to}
+use Rattle.bar_caster.specs.Code.Ticking.{update_now}
 use Rattle.bar_caster.proofs.Pushed.{IsPushed, gets_block, is-served, not_pushed, pushed-more, pushed_to}
 use Rattle.bar_caster.proofs.sending.send_block.Goals as goal
 use Rattle.bar_caster.proofs.sending.send_block.Goals.{then-not-is_evicted+then-is_sent_to, else-not-is_evicted}

@@ -1,13 +1,13 @@
 use Rattle.std.proofs.Common.{◌≡◌, ◌+◌, ◌≤◌, ◌++◌, length}
 use Rattle.bar_rules.specs.Peer.Log.{Log}
-use Rattle.bar_caster.specs.Fanout.{AreRanksOf}
-use Rattle.bar_caster.specs.Memory.{Represents, member_of}
-use Rattle.bar_caster.specs.Ticking.{update_now}
+use Rattle.bar_caster.specs.Code.Fanout.{AreRanksOf}
+use Rattle.bar_caster.specs.Code.Memory.{Represents, member_of}
+use Rattle.bar_caster.specs.Code.Ticking.{update_now}
 use Rattle.bar_caster.proofs.Pushed.{gets_block, pushed_to}
 use Rattle.bar_caster.specs.declared.item.Item.TheVariants as items
 use Rattle.bar_caster.proofs.sending.send_block.Given as goal
 
--- the orders for the peers so far are pushed
+-- the orders for the peers before the current one are pushed
 abbrev pub invariant-loop-before : goal.invariant-loop-before
 invariant-loop-before l = record {
   few : length l.orders.list.items ≤ length l.initial.orders.list.items + l.before;

@@ -3,8 +3,8 @@ use Rattle.std.proofs.Math.Nat.{mul-le-mul_right}
 use Rattle.bar_wire.specs.declared.shape.Shape.{Shape}
 use Rattle.bar_session.specs.Time.{round_after}
 use Rattle.bar_rules.specs.Member.{Member}
-use Rattle.bar_caster.specs.Fanout.{AreRanksOf}
-use Rattle.bar_caster.specs.Memory.{member_of}
+use Rattle.bar_caster.specs.Code.Fanout.{AreRanksOf}
+use Rattle.bar_caster.specs.Code.Memory.{member_of}
 use Rattle.bar_caster.proofs.Pushed.{orders-more}
 use Rattle.bar_caster.proofs.sending.send_blocks.Goals as goal
 

@@ -1,10 +1,10 @@
 use Rattle.std.proofs.Common.{◌≡◌, ◌+◌, ◌*◌, ◌≤◌, ◌++◌, length}
 use Rattle.bar_rules.specs.Peer.Log.{Log}
-use Rattle.bar_caster.specs.Memory.{Represents, member_of}
-use Rattle.bar_caster.specs.Ticking.{block_orders}
+use Rattle.bar_caster.specs.Code.Memory.{Represents, member_of}
+use Rattle.bar_caster.specs.Code.Ticking.{block_orders}
 use Rattle.bar_caster.proofs.sending.send_blocks.Given as goal
 
--- the orders of the blocks so far are pushed
+-- the orders of the blocks before the current one are pushed
 abbrev pub invariant-loop-index : goal.invariant-loop-index
 invariant-loop-index g l = record {
   ranks : length l.ranks ≡ length l.initial.ranks;

@@ -2,7 +2,7 @@ use Rattle.std.proofs.Common.{◌≡◌, ◌∙◌, ◌+◌, ◌++◌, ℕ, Bool
 use Rattle.std.specs.Prelude.{not}
 use Rattle.bar_wire.specs.declared.shape.Shape.{Shape}
 use Rattle.bar_rules.specs.Peer.Log.{kept}
-use Rattle.bar_caster.specs.Orders.{Orders}
+use Rattle.bar_caster.specs.Code.Orders.{Orders}
 use Rattle.bar_caster.proofs.Pushed.{IsPushed, not_pushed, order_if, pushed-more, is-served}
 use Rattle.bar_caster.proofs.sending.send_to_all.Goals as goal
 use Rattle.bar_caster.proofs.sending.send_to_all.Goals.{then-not-is_evicted, else-not-is_evicted}

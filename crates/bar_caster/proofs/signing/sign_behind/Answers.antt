@@ -1,4 +1,4 @@
--- The signature stands behind the message.
+-- The signature follows the message.
 use Rattle.std.proofs.Common.{◌∙◌, ◌+◌, ◌++◌, take, sym, ap}
 use Rattle.std.proofs.Math.Seq.{take-append-add}
 use Rattle.bar_caster.proofs.signing.sign_behind.Goals as goal

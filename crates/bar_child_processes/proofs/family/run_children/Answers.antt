@@ -2,7 +2,7 @@ use Rattle.std.proofs.Common.{ℕ, map, subst}
 use Rattle.std.proofs.lemmas.Simd.{map-map}
 use Rattle.bar_child_processes.specs.Outcomes.{code_of}
 use Rattle.bar_child_processes.specs.Sessions.{AreRunning}
-use Rattle.bar_child_processes.specs.Views.{key_in, names_view, report_view}
+use Rattle.bar_child_processes.specs.Code.Views.{key_in, names_view, report_view}
 use Rattle.bar_child_processes.proofs.Whole.{session-ran}
 use Rattle.bar_child_processes.proofs.family.run_children.Goals as goal
 

@@ -1,7 +1,7 @@
 use Rattle.std.proofs.Common.{rules, ◌≡◌, ◌∙◌, ◌+◌, ◌∷◌, ◌++◌, [], map, length, length-append, sym, ap, arith}
 use Rattle.std.proofs.lemmas.List.{length-map, map-append}
 use Rattle.bar_child_processes.specs.declared.child.Child.{Child}
-use Rattle.bar_child_processes.specs.Views.{key_in, names_view}
+use Rattle.bar_child_processes.specs.Code.Views.{key_in, names_view}
 use Rattle.bar_child_processes.specs.Words.{party_at}
 use Rattle.bar_child_processes.proofs.Starting.{starting-more}
 use Rattle.bar_child_processes.proofs.family.start_all.Goals as goal

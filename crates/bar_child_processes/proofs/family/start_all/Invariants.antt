@@ -1,5 +1,5 @@
 use Rattle.std.proofs.Common.{◌≡◌, ◌≤◌, ◌+◌, length, map, vec_capacity}
-use Rattle.bar_child_processes.specs.Views.{key_in, names_view}
+use Rattle.bar_child_processes.specs.Code.Views.{key_in, names_view}
 use Rattle.bar_child_processes.proofs.Starting.{Starting}
 use Rattle.bar_child_processes.proofs.family.start_all.Given as goal
 

@@ -2,7 +2,7 @@ use Rattle.std.proofs.Common.{◌≡◌, ◌∙◌, ◌<◌, ◌+◌, ◌∷◌,
 use Rattle.std.proofs.lemmas.List.{drop_more, map-append, take_more}
 use Rattle.bar_child_processes.specs.declared.child.Child.{Child}
 use Rattle.bar_child_processes.specs.Sessions.{AreRunning}
-use Rattle.bar_child_processes.specs.Views.{key_in, report_view}
+use Rattle.bar_child_processes.specs.Code.Views.{key_in, report_view}
 use Rattle.bar_child_processes.proofs.MoreChildren.{reports-none, reports-append}
 use Rattle.bar_child_processes.proofs.Running.{running-waited}
 use Rattle.bar_child_processes.proofs.family.wait_for_all.Goals as goal
@@ -13,7 +13,7 @@ loop-child-init g c = record {
   running = c.requires;
 }
 
--- the children from one on, by their numbers
+-- the numbers of the children from an index on
 numbers-at : (children : List Child) (i : ℕ) → i < length children →
     map (λ (c : Child). c.number) (drop i children)
     ≡ (get_or children i (record { party = 0; number = 0 })).number ∷ map (λ (c : Child). c.number) (drop (i + 1) children)

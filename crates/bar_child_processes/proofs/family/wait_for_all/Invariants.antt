@@ -1,6 +1,6 @@
 use Rattle.std.proofs.Common.{map, take, drop}
 use Rattle.bar_child_processes.specs.Sessions.{AreRunning, Reports}
-use Rattle.bar_child_processes.specs.Views.{key_in, report_view}
+use Rattle.bar_child_processes.specs.Code.Views.{key_in, report_view}
 use Rattle.bar_child_processes.proofs.family.wait_for_all.Given as goal
 
 -- the children so far were waited for, and the others are running

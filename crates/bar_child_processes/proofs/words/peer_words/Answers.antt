@@ -1,5 +1,5 @@
 use Rattle.std.proofs.Common.{rules}
-use Rattle.bar_child_processes.specs.Views.{names_view}
+use Rattle.bar_child_processes.specs.Code.Views.{names_view}
 use Rattle.bar_child_processes.proofs.WordLemmas.{words-peer}
 use Rattle.bar_child_processes.proofs.words.peer_words.Goals as goal
 

@@ -1,7 +1,7 @@
 use Rattle.std.proofs.Common.{true, false, rules, tests}
 use Rattle.std.proofs.lemmas.Result.{err_from_is_err_and}
 use Rattle.bar_outside.specs.Plan.{with_files, with_out}
-use Rattle.bar_cli.specs.Views.{audit_view}
+use Rattle.bar_cli.specs.Code.Views.{audit_view}
 use Rattle.bar_cli.proofs.AuditLemmas.{accepted-parties, range-is, refused-parties}
 use Rattle.bar_cli.proofs.audit.audit_session.Goals as goal
 

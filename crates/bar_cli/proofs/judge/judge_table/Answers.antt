@@ -7,7 +7,7 @@ use Rattle.bar_outside.proofs.StageEnds.{EndsWith-stage, EndsWith-stage_refused}
 use Rattle.bar_terms.specs.Table.{digests_of}
 use Rattle.bar_wire.specs.Evidence.{datagrams_of}
 use Rattle.bar_rules.specs.Judge.Verdict.{Verdict}
-use Rattle.bar_judge.specs.Verdicts.{plain_verdict}
+use Rattle.bar_judge.specs.Code.Verdicts.{plain_verdict}
 use Rattle.bar_cli.specs.Judge.Judging.{datagrams_in}
 use Rattle.bar_cli.specs.Judge.Plan.{saying_plan}
 use Rattle.bar_cli.specs.Refusals.{evidence_refused}

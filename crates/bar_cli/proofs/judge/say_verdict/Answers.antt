@@ -2,7 +2,7 @@ use Rattle.std.proofs.Common.{◌∷◌, [], Ok, Err, refl, ap, sym, ◌∙◌}
 use Rattle.std.proofs.lemmas.Result.{err_from_is_err_and}
 use Rattle.bar_outside.specs.Plan.Action.{show}
 use Rattle.bar_outside.proofs.Ending.{EndsWith-doing, EndsWith-memory}
-use Rattle.bar_judge.specs.Verdicts.{plain_verdict}
+use Rattle.bar_judge.specs.Code.Verdicts.{plain_verdict}
 use Rattle.bar_cli.specs.Judge.Judging.{status_of_verdict}
 use Rattle.bar_cli.proofs.JudgeRows.{says-on}
 use Rattle.bar_cli.proofs.StatusLemmas.{never-file, never-link, quiet, unsaid-at}

@@ -4,7 +4,7 @@ use Rattle.bar_outside.proofs.Ending.{EndsWith-ending}
 use Rattle.bar_outside.proofs.StageEnds.{EndsWith-accepts, EndsWith-refuses}
 use Rattle.bar_cli.specs.Keygen.Plan.{secret_stages}
 use Rattle.bar_cli.specs.Refusals.{session_refused}
-use Rattle.bar_cli.specs.Views.{keygen_view}
+use Rattle.bar_cli.specs.Code.Views.{keygen_view}
 use Rattle.bar_cli.proofs.keygen.keygen.Goals as goal
 
 pub returns-in-Ok-clause-ends : goal.returns-in-Ok-clause-ends

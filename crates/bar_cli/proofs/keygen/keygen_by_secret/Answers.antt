@@ -7,7 +7,7 @@ use Rattle.bar_outside.proofs.StageEnds.{EndsWith-stage, EndsWith-stage_memory, 
 use Rattle.bar_roster.specs.KeyText.{key_text_of}
 use Rattle.bar_cli.specs.Keygen.Plan.{key_made, keygen_actions, lines_of, making_end, secret_of}
 use Rattle.bar_cli.specs.Refusals.{secret_refused}
-use Rattle.bar_cli.specs.Views.{keygen_view}
+use Rattle.bar_cli.specs.Code.Views.{keygen_view}
 use Rattle.bar_cli.proofs.MadeFiles.{can-make, made-of}
 use Rattle.bar_cli.proofs.StatusLemmas.{never-link, no-refusal, quiet, unprinted-at}
 use Rattle.bar_cli.proofs.keygen.keygen_by_secret.Goals as goal

@@ -5,7 +5,7 @@ use Rattle.bar_outside.proofs.Ending.{EndsWith-doing, EndsWith-memory}
 use Rattle.bar_proof.specs.Packing.{IsRefused}
 use Rattle.bar_proof.specs.declared.pack_fault.PackFault.{PackFault}
 use Rattle.bar_cli.specs.Pack.{packed_line, packing_actions}
-use Rattle.bar_cli.specs.Views.{packing_view}
+use Rattle.bar_cli.specs.Code.Views.{packing_view}
 use Rattle.bar_cli.proofs.MadeFiles.{can-make, made-of}
 use Rattle.bar_cli.proofs.PackLemmas.{bad-evidence, bad-table, nothing-shown, one-shown}
 use Rattle.bar_cli.proofs.StatusLemmas.{never-link, quiet, unsaid-at}

@@ -5,14 +5,14 @@ use Rattle.bar_outside.proofs.Ending.{EndsWith-doing, EndsWith-unread}
 use Rattle.bar_outside.specs.Stages.Stages.{does}
 use Rattle.bar_outside.proofs.StageEnds.{EndsWith-stage, EndsWith-stage_refused}
 use Rattle.bar_cli.specs.Replay.Recordings.{recording_of}
-use Rattle.bar_record.specs.Inputs.{inputs_left}
+use Rattle.bar_record.specs.Code.Inputs.{inputs_left}
 use Rattle.bar_record.specs.Pacing.{paced}
 use Rattle.bar_session.specs.Time.{last_tick}
 use Rattle.bar_rules.specs.Members.{member_by}
 use Rattle.bar_cli.specs.Replay.Found.{found_by}
 use Rattle.bar_cli.specs.Replay.Plan.{replay_actions, run_end, turns_of}
 use Rattle.bar_cli.specs.Refusals.{recording_refused}
-use Rattle.bar_cli.specs.Views.{names_view}
+use Rattle.bar_cli.specs.Code.Views.{names_view}
 use Rattle.bar_cli.proofs.ReplayLemmas.{can-replay}
 use Rattle.bar_cli.proofs.StatusLemmas.{never-link, quiet, unshown-at}
 use Rattle.bar_cli.proofs.replay.replay_key.Goals as goal

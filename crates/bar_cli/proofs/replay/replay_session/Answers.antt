@@ -12,7 +12,7 @@ use Rattle.bar_outside.proofs.StageEnds.{EndsWith-stage, EndsWith-stage_memory, 
 use Rattle.bar_session_files.specs.Accepting.{secrets_of_key}
 use Rattle.bar_cli.proofs.replay.replay_session.Goals as goal
 
--- a fault that the test tells from want of memory
+-- a fault that the test distinguishes from running out of memory
 is-other : (fault : KeyFileFault) (P : Type 0) → false ≡ sameb the_type fault NoMemory → (fault ≡ NoMemory) ⊎ P → P
 is-other fault P test (inl e) = absurd (false≢true (rw e at test))
 is-other fault P test (inr p) = p

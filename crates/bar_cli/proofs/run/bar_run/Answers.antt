@@ -148,7 +148,7 @@ returns-clause-ruled g c = λ was.
       spared = λ seed peer low high is. c.honest_peers_stay.ensures seed peer low high is;
     }
 
--- ---- what standard error has of it
+-- ---- what was printed on standard error
 
 pub returns-clause-said : goal.returns-clause-said
 returns-clause-said g c = λ was.

@@ -1,11 +1,11 @@
 use Rattle.std.proofs.Common.{◌≡◌, ◌↔◌, ◌∙◌, ℕ, List, Option, Some, false, refl, ap, sym, subst, true≢false}
-use Rattle.bar_outside.specs.Children.{Children}
+use Rattle.bar_outside.specs.Code.Children.{Children}
 use Rattle.bar_outside.specs.Plan.{Outside, with_files, with_wire}
 use Rattle.bar_party_commands.specs.CasterPlan.{CasterNames}
 use Rattle.bar_party_commands.specs.PeerPlan.{PeerNames}
-use Rattle.bar_party_commands.specs.Views.{peer_view, caster_view}
+use Rattle.bar_party_commands.specs.Code.Views.{peer_view, caster_view}
 use Rattle.bar_child_processes.specs.Names.{SessionNames}
-use Rattle.bar_child_processes.specs.Views.{names_view as family_view}
+use Rattle.bar_child_processes.specs.Code.Views.{names_view as family_view}
 use Rattle.bar_cli.specs.Keygen.Plan.{Keygen, HasFewLeaves}
 use Rattle.bar_cli.specs.Audit.Plan.{AuditFiles}
 use Rattle.bar_cli.specs.Judge.Plan.{JudgeFiles}
@@ -13,7 +13,7 @@ use Rattle.bar_cli.specs.Line.{Line, peer, broadcaster, replay, keygen, audit, j
 use Rattle.bar_cli.specs.Replay.Plan.{ReplayFiles}
 use Rattle.bar_cli.specs.Session.{SessionEnds}
 use Rattle.bar_cli.specs.Status.{code_of_run}
-use Rattle.bar_cli.specs.Views.{names_view, keygen_view, audit_view, judge_view, command_view, packing_view, verify_view}
+use Rattle.bar_cli.specs.Code.Views.{names_view, keygen_view, audit_view, judge_view, command_view, packing_view, verify_view}
 use Rattle.bar_cli.proofs.AuditRows as auditing
 use Rattle.bar_cli.specs.Pack.{PackFiles}
 use Rattle.bar_cli.specs.Verify.{VerifyFiles}
@@ -58,7 +58,7 @@ simulate-other seed asked e = cc
 same-line : (a b : Keygen) → ◌≡◌ {A = Line} (keygen a) (keygen b) → a ≡ b
 same-line a b e = cc
 
--- what starts no children is no `session`
+-- a command that starts no children isn't `session`
 no-session : (wanted : Option Line) (family : SessionNames) → starts_children wanted ≡ false → wanted ≡ Some (session_run family) → ⊥
 no-session wanted family none is = true≢false (sym (ap starts_children is) ∙ none)
 

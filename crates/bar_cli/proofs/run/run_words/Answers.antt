@@ -4,7 +4,7 @@ use Rattle.bar_outside.proofs.Ending.{EndsWith-ending}
 use Rattle.bar_cli.specs.Line.{Line, usage}
 use Rattle.bar_cli.specs.Ran.{CommandRan}
 use Rattle.bar_cli.specs.Status.{code_of, said_at}
-use Rattle.bar_cli.specs.Views.{command_view}
+use Rattle.bar_cli.specs.Code.Views.{command_view}
 use Rattle.bar_cli.proofs.RunLemmas.{no-memory, over-no_link}
 use Rattle.bar_cli.proofs.SessionLemmas.{no-session}
 use Rattle.bar_cli.proofs.StatusLemmas.{memory-status, no-usage}
@@ -16,7 +16,7 @@ some-line e = cc
 none-some : {a : Line} (o : Option Line) → o ≡ None → o ≡ Some a → ⊥
 none-some o e f = cc
 
--- ---- the words are a line
+-- ---- the arguments are a valid command line
 
 pub returns-in-Ok-clause-ran : goal.returns-in-Ok-clause-ran
 returns-in-Ok-clause-ran g c = λ was.
@@ -37,7 +37,7 @@ returns-in-Ok-clause-leaves_refused g c = λ asked is few.
 pub returns-in-Ok-clause-usage : goal.returns-in-Ok-clause-usage
 returns-in-Ok-clause-usage g c = λ two. absurd (no-usage (command_view c.in-Ok.command) _ (c.run_command.ensures.ran (λ path. None)).statuses two)
 
--- ---- they aren't
+-- ---- the arguments aren't a valid command line
 
 pub returns-in-Err-Usage-clause-ran : goal.returns-in-Err-Usage-clause-ran
 returns-in-Err-Usage-clause-ran g c = λ was.
@@ -60,7 +60,7 @@ pub returns-in-Err-Usage-clause-leaves_refused : goal.returns-in-Err-Usage-claus
 returns-in-Err-Usage-clause-leaves_refused g c =
     λ asked is few. absurd (none-some _ (c.in-Err-Usage.ensures.usage (ap Err c.in-Err-Usage.field-0-is)) is)
 
--- ---- memory is wanting
+-- ---- memory ran out
 
 pub returns-in-Err-NoMemory-clause-ran : goal.returns-in-Err-NoMemory-clause-ran
 returns-in-Err-NoMemory-clause-ran g c = λ was. record {

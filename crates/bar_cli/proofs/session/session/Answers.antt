@@ -1,13 +1,13 @@
 use Rattle.std.proofs.Common.{◌≡◌, ◌⊎◌, ◌∙◌, Err, Some, [], IsTrue, refl, sym, ap, inl, inr, rules, true≢false, None}
 use Rattle.std.proofs.lemmas.Result.{err_from_is_err_and}
-use Rattle.bar_outside.specs.Faults.{code_of_fault, fault_of_file}
+use Rattle.bar_outside.specs.Code.Faults.{code_of_fault, fault_of_file}
 use Rattle.bar_outside.specs.Plan.{with_out}
 use Rattle.bar_outside.specs.declared.files.FileFault.{FileFault}
 use Rattle.bar_outside.specs.declared.files.FileFault.TheVariants as file
 use Rattle.bar_outside.proofs.Ending.{EndsWith-ending, EndsWith-unread}
 use Rattle.bar_outside.proofs.StageEnds.{EndsWith-stage, EndsWith-stage_memory, EndsWith-stage_refused}
 use Rattle.bar_child_processes.specs.Names.{SessionNames}
-use Rattle.bar_child_processes.specs.Views.{names_view}
+use Rattle.bar_child_processes.specs.Code.Views.{names_view}
 use Rattle.bar_session_files.specs.Accepting.{session_of}
 use Rattle.bar_cli.specs.Line.{is_status_of, session_run}
 use Rattle.bar_cli.specs.Printing.{session_may_print}
@@ -75,7 +75,7 @@ returns-in_err-text-clause-statuses g c =
     let r = c.in_err-text.ensures (λ path. None) in
     rw (p.1, p.2, r.2) (unread-status (names_view c.args.names.now) r.0)
 
--- ---- memory is wanting
+-- ---- memory ran out
 
 pub returns-in-Err-NoMemory-clause-ends : goal.returns-in-Err-NoMemory-clause-ends
 returns-in-Err-NoMemory-clause-ends g c = λ w was. record {

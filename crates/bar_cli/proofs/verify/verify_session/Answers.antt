@@ -3,7 +3,7 @@ use Rattle.std.proofs.lemmas.Result.{err_from_is_err_and}
 use Rattle.bar_outside.specs.Plan.{with_files, with_out}
 use Rattle.bar_outside.proofs.Ending.{EndsWith-unread}
 use Rattle.bar_outside.proofs.StageEnds.{EndsWith-stage, EndsWith-stage_memory, EndsWith-stage_refused}
-use Rattle.bar_judge.specs.Verdicts.{plain_verdict}
+use Rattle.bar_judge.specs.Code.Verdicts.{plain_verdict}
 use Rattle.bar_cli.specs.Judge.Judging.{verdict_of_proof}
 use Rattle.bar_cli.specs.Judge.Plan.{saying}
 use Rattle.bar_cli.specs.Refusals.{proof_refused}

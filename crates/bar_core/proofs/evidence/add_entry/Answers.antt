@@ -1,5 +1,5 @@
 use Rattle.bar_bytes.specs.Bytes.{u16_bytes}
-use Rattle.bar_bytes.specs.Rooms.{kept_in}
+use Rattle.bar_bytes.specs.Code.Rooms.{kept_in}
 use Rattle.bar_core.proofs.Entries.{entry_put}
 use Rattle.bar_core.proofs.evidence.add_entry.Goals as goal
 

@@ -1,5 +1,5 @@
 use Rattle.std.proofs.Common.{ℕ, ◌∷◌, subst, arith}
-use Rattle.bar_bytes.specs.Rooms.{kept_in}
+use Rattle.bar_bytes.specs.Code.Rooms.{kept_in}
 use Rattle.bar_wire.specs.Evidence.{other}
 use Rattle.bar_core.proofs.Entries.{KeepsWhatFits, keeps_one, keeps_two, long_with_one, long_with_two}
 use Rattle.bar_core.proofs.evidence.keep_evidence.Goals as goal

@@ -1,6 +1,6 @@
 use Rattle.std.proofs.Common.{◌∙◌, ◌==◌, ◌+◌, ◌++◌, ◌∷◌, [], List, ℕ, Some, length, ap, arith}
 use Rattle.std.specs.Prelude.{if◌then◌else◌}
-use Rattle.bar_bytes.specs.Rooms.{kept_in}
+use Rattle.bar_bytes.specs.Code.Rooms.{kept_in}
 use Rattle.bar_wire.specs.Grammar.{entry}
 use Rattle.bar_wire.proofs.Lists.{entry_length}
 use Rattle.bar_core.proofs.Entries.{put_there, put_behind, leaves_room, two_spelled}

@@ -4,12 +4,12 @@ use Rattle.bar_window.specs.declared.exchange.Exchange.{Exchange}
 use Rattle.bar_window.specs.Exchange.{other_role}
 use Rattle.bar_wire.specs.Datagram.{exchange_by}
 use Rattle.bar_wire.specs.declared.kind.Kind.TheVariants as kinds
-use Rattle.bar_wire.specs.Views.{AreTermWindows}
+use Rattle.bar_wire.specs.Code.Views.{AreTermWindows}
 use Rattle.bar_rules.specs.Peer.Admission.{are_terms}
 use Rattle.bar_rules.specs.Peer.Agreement.{IsRecent}
 use Rattle.bar_rules.specs.Peer.Knowledge.{has_said_of, is_in_time}
 use Rattle.bar_rules.specs.Peer.Terms.{terms_of}
-use Rattle.bar_ledger.specs.Lookups.{said_in}
+use Rattle.bar_ledger.specs.Code.Lookups.{said_in}
 use Rattle.bar_wire.proofs.ExchangeBy.{round-by}
 use Rattle.bar_exchange.proofs.FourTests.{third_of_four}
 use Rattle.bar_exchange.proofs.case.admits_case.Goals as goal

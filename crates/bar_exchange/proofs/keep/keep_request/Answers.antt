@@ -5,9 +5,9 @@ use Rattle.std.proofs.lemmas.Bool.{false≢true}
 use Rattle.std.proofs.lemmas.Option.{none-some}
 use Rattle.bar_wire.specs.declared.kind.Kind.{Kind}
 use Rattle.bar_ledger.specs.declared.entry.Entry.{Entry}
-use Rattle.bar_ledger.specs.Kept.{Kept, with_bytes}
-use Rattle.bar_ledger.specs.Memory.{MayHear}
-use Rattle.bar_exchange.specs.Parts.{ChangesKept}
+use Rattle.bar_ledger.specs.Code.Kept.{Kept, with_bytes}
+use Rattle.bar_ledger.specs.Code.Memory.{MayHear}
+use Rattle.bar_exchange.specs.Code.Parts.{ChangesKept}
 use Rattle.bar_exchange.proofs.Asked.{AddsEntry, has_seat, has_room, not_kept, may_hear_request, request_learned}
 use Rattle.bar_exchange.proofs.keep.keep_request.Goals as goal
 

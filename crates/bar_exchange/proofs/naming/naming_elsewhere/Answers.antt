@@ -3,8 +3,8 @@ use Rattle.std.specs.List.{list_any}
 use Rattle.bar_rules.specs.Peer.Evidence.{shared_from}
 use Rattle.bar_rules.proofs.Shared.{shared_are}
 use Rattle.bar_ledger.specs.declared.ledger.Ledger.{Ledger}
-use Rattle.bar_ledger.specs.Memory.{entries_in}
-use Rattle.bar_ledger.specs.Naming.{shares_leaf}
+use Rattle.bar_ledger.specs.Code.Memory.{entries_in}
+use Rattle.bar_ledger.specs.Code.Naming.{shares_leaf}
 use Rattle.bar_exchange.proofs.Passing.{unnamed_among}
 use Rattle.bar_exchange.proofs.naming.naming_elsewhere.Goals as goal
 

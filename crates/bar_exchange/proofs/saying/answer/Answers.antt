@@ -1,7 +1,7 @@
 use Rattle.std.proofs.Common.{◌≡◌, sym, subst, ◌∙◌}
 use Rattle.std.proofs.lemmas.Option.{same_Some}
 use Rattle.bar_ledger.specs.declared.entry.Entry.{Entry}
-use Rattle.bar_exchange.specs.Answering.{IsAnsweredWith}
+use Rattle.bar_exchange.specs.Code.Answering.{IsAnsweredWith}
 use Rattle.bar_exchange.proofs.Marks.{found_by}
 use Rattle.bar_exchange.proofs.Begun.{answer_recalls}
 use Rattle.bar_exchange.proofs.saying.answer.Goals as goal

@@ -4,7 +4,7 @@ use Rattle.bar_terms.specs.declared.items.Item.{Item}
 use Rattle.bar_case.specs.Sealed.{IsHeldItem}
 use Rattle.bar_case.proofs.Blocks.{updates_held}
 use Rattle.bar_case.proofs.Laid.{promise_held}
-use Rattle.bar_store.specs.Held.{block_in}
+use Rattle.bar_store.specs.Code.Held.{block_in}
 use Rattle.bar_exchange.proofs.sealing.can_seal.Goals as goal
 
 pub returns : goal.returns

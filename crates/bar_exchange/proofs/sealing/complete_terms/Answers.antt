@@ -3,10 +3,10 @@ use Rattle.std.specs.Prelude.{option_map, option_and_then}
 use Rattle.std.specs.Bool.{then_some}
 use Rattle.bar_window.specs.declared.terms.Terms.{Terms as WindowTerms}
 use Rattle.bar_window.specs.Terms.{plain_terms}
-use Rattle.bar_ledger.specs.Kept.{Kept}
-use Rattle.bar_ledger.specs.Lookups.{complete_by, if_known}
-use Rattle.bar_ledger.specs.Memory.{find_in}
-use Rattle.bar_ledger.specs.Recalls.{complete_terms}
+use Rattle.bar_ledger.specs.Code.Kept.{Kept}
+use Rattle.bar_ledger.specs.Code.Lookups.{complete_by, if_known}
+use Rattle.bar_ledger.specs.Code.Memory.{find_in}
+use Rattle.bar_ledger.specs.Code.Recalls.{complete_terms}
 use Rattle.bar_exchange.proofs.Knowing.{is_known}
 use Rattle.bar_exchange.proofs.sealing.complete_terms.Goals as goal
 

@@ -8,7 +8,7 @@ use Rattle.bar_terms.specs.Terms.{promised_updates, promised_junk}
 use Rattle.bar_seeds.specs.Derived as derived
 use Rattle.bar_wire.specs.Datagram.{Case}
 use Rattle.bar_wire.specs.declared.shape.Shape.{Shape}
-use Rattle.bar_wire.specs.Views.{AreTermWindows}
+use Rattle.bar_wire.specs.Code.Views.{AreTermWindows}
 use Rattle.bar_case.specs.Sealed as sealing
 use Rattle.bar_case.proofs.Blocks.{sealed_same}
 use Rattle.bar_rules.specs.Member.{Session}
@@ -16,8 +16,8 @@ use Rattle.bar_rules.specs.Secrets.{briefcase_key}
 use Rattle.bar_rules.specs.Peer.Exchanges.{role_of}
 use Rattle.bar_rules.specs.Peer.Orders.{case_body}
 use Rattle.bar_rules.specs.Peer.Terms.{terms_of}
-use Rattle.bar_store.specs.Held.{block_in}
-use Rattle.bar_exchange.specs.Writing.{IsSealable, bytes_to}
+use Rattle.bar_store.specs.Code.Held.{block_in}
+use Rattle.bar_exchange.specs.Code.Writing.{IsSealable, bytes_to}
 use Rattle.bar_exchange.proofs.Briefcases.{blocks_same, sealable_here}
 use Rattle.bar_exchange.proofs.sealing.write_case.Goals as goal
 

@@ -2,7 +2,7 @@ use Rattle.std.proofs.Common.{◌∙◌, [], ◌∷◌, ◌++◌, is_some, sym, 
 use Rattle.bar_wire.specs.declared.kind.Kind.TheVariants as kinds
 use Rattle.bar_rules.specs.Peer.Orders.{Resend}
 use Rattle.bar_rules.specs.Peer.Ticks.{reveals}
-use Rattle.bar_ledger.specs.Lookups.{heard_in}
+use Rattle.bar_ledger.specs.Code.Lookups.{heard_in}
 use Rattle.bar_exchange.proofs.CasesAgain.{case_recent, partner_heard, with_key_request, without_key_request}
 use Rattle.bar_exchange.proofs.tick.case_again.Goals as goal
 

@@ -1,7 +1,7 @@
 use Rattle.std.proofs.Common.{◌∙◌, ◌||◌, is_some, sym, ap}
 use Rattle.std.specs.Prelude.{not}
 use Rattle.bar_wire.specs.declared.kind.Kind.TheVariants as kinds
-use Rattle.bar_ledger.specs.Lookups.{heard_in}
+use Rattle.bar_ledger.specs.Code.Lookups.{heard_in}
 use Rattle.bar_exchange.proofs.CasesAgain.{keys_known}
 use Rattle.bar_exchange.proofs.tick.lacks_keys.Goals as goal
 

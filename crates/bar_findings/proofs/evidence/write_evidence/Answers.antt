@@ -1,5 +1,5 @@
 use Rattle.std.proofs.lemmas.Result.{err_from_is_err_and}
-use Rattle.bar_bytes.specs.Rooms.{kept_in}
+use Rattle.bar_bytes.specs.Code.Rooms.{kept_in}
 use Rattle.bar_findings.specs.Findings.{evidence_name, file_of, findings_actions}
 use Rattle.bar_findings.proofs.Writing.{all-written, findings-join, one-written, one-unwritten}
 use Rattle.bar_findings.proofs.evidence.write_evidence.Goals as goal

@@ -1,8 +1,8 @@
 use Rattle.std.proofs.Common.{Ok}
-use Rattle.bar_bytes.specs.Rooms.{kept_in}
+use Rattle.bar_bytes.specs.Code.Rooms.{kept_in}
 use Rattle.bar_outside.specs.Disk.{Content}
 use Rattle.bar_outside.specs.Plan.{Outside, with_files}
-use Rattle.bar_outside.specs.Follows.{Follows}
+use Rattle.bar_outside.specs.Code.Follows.{Follows}
 use Rattle.bar_findings.specs.Findings.{files_of, findings_actions}
 use Rattle.bar_findings.proofs.evidence.write_evidence.Given as goal
 

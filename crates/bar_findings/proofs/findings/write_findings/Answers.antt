@@ -1,5 +1,5 @@
 use Rattle.std.proofs.lemmas.Result.{err_from_is_err_and}
-use Rattle.bar_bytes.specs.Rooms.{kept_in}
+use Rattle.bar_bytes.specs.Code.Rooms.{kept_in}
 use Rattle.bar_outside.proofs.Following.{followed, stopped}
 use Rattle.bar_findings.specs.Findings.{files_of, finding_actions, findings_actions, table_of}
 use Rattle.bar_findings.proofs.findings.write_findings.Goals as goal

@@ -1,6 +1,6 @@
 use Rattle.std.proofs.lemmas.Result.{err_from_is_err_and}
 use Rattle.std.specs.Option.{option_to_list}
-use Rattle.bar_bytes.specs.Rooms.{kept_in}
+use Rattle.bar_bytes.specs.Code.Rooms.{kept_in}
 use Rattle.bar_findings.proofs.Writing.{all-written, appended-entries, entries-join, one-written, one-unwritten}
 use Rattle.bar_findings.proofs.table.append_entries.Goals as goal
 

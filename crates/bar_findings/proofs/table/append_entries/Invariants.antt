@@ -1,9 +1,9 @@
 use Rattle.std.proofs.Common.{Ok, map}
-use Rattle.bar_bytes.specs.Rooms.{kept_in}
+use Rattle.bar_bytes.specs.Code.Rooms.{kept_in}
 use Rattle.bar_outside.specs.Disk.{Content}
 use Rattle.bar_outside.specs.Plan.{Outside, with_files}
 use Rattle.bar_outside.specs.Plan.Action.{append}
-use Rattle.bar_outside.specs.Follows.{Follows}
+use Rattle.bar_outside.specs.Code.Follows.{Follows}
 use Rattle.bar_wire.specs.Grammar.{entry as entry_bytes}
 use Rattle.bar_findings.specs.Findings.{AreShort, in_order}
 use Rattle.bar_findings.proofs.table.append_entries.Given as goal

@@ -1,6 +1,6 @@
 use Rattle.std.proofs.Common.{sym, ap, ◌∙◌}
 use Rattle.std.specs.Option.{option_copied}
-use Rattle.bar_bytes.specs.Rooms.{kept_in}
+use Rattle.bar_bytes.specs.Code.Rooms.{kept_in}
 use Rattle.bar_findings.proofs.Writing.{entry-there, short-there}
 use Rattle.bar_findings.proofs.table.append_entry.Goals as goal
 

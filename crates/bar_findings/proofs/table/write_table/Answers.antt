@@ -1,6 +1,6 @@
 use Rattle.std.proofs.Common.{◌∙◌, map}
 use Rattle.std.proofs.lemmas.Result.{err_from_is_err_and}
-use Rattle.bar_bytes.specs.Rooms.{kept_in}
+use Rattle.bar_bytes.specs.Code.Rooms.{kept_in}
 use Rattle.bar_outside.proofs.Following.{no_memory}
 use Rattle.bar_wire.specs.Grammar.{entry as entry_bytes}
 use Rattle.bar_findings.specs.Findings.{in_order, table_name}

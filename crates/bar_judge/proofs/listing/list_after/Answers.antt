@@ -1,8 +1,8 @@
 use Rattle.std.proofs.Common.{◌/◌, length, ap, arith}
 use Rattle.bar_wire.specs.declared.shape.Shape.{Shape}
-use Rattle.bar_wire.specs.Views.{plain}
+use Rattle.bar_wire.specs.Code.Views.{plain}
 use Rattle.bar_wire.proofs.Steps.{length_chunks}
-use Rattle.bar_judge.specs.TableViews.{plain_list}
+use Rattle.bar_judge.specs.Code.TableViews.{plain_list}
 use Rattle.bar_judge.proofs.TableLists.{is_listed}
 use Rattle.bar_judge.proofs.listing.list_after.Goals as goal
 

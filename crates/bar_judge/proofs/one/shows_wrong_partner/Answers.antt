@@ -1,6 +1,6 @@
 use Rattle.std.proofs.Common.{arith}
-use Rattle.bar_wire.specs.Views.{plain}
-use Rattle.bar_judge.specs.Parts.{plain_choice}
+use Rattle.bar_wire.specs.Code.Views.{plain}
+use Rattle.bar_judge.specs.Code.Parts.{plain_choice}
 use Rattle.bar_wire.proofs.ChoiceLemmas.{choice_rounds}
 use Rattle.bar_judge.proofs.one.shows_wrong_partner.Goals as goal
 

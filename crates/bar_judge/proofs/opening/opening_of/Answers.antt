@@ -1,9 +1,9 @@
 use Rattle.std.proofs.Common.{◌∙◌, refl, sym}
 use Rattle.bar_case.specs.Opened.{is_bad}
 use Rattle.bar_terms.specs.Table.{digests_of}
-use Rattle.bar_wire.specs.Views.{datagram}
+use Rattle.bar_wire.specs.Code.Views.{datagram}
 use Rattle.bar_rules.specs.Values.{is_unknown}
-use Rattle.bar_judge.specs.Parts.{plain_briefcase, plain_key}
+use Rattle.bar_judge.specs.Code.Parts.{plain_briefcase, plain_key}
 use Rattle.bar_judge.proofs.Openings.{before_one, before_three, opening_told}
 use Rattle.bar_judge.proofs.opening.opening_of.Goals as goal
 

@@ -1,9 +1,9 @@
 use Rattle.std.proofs.Common.{◌≡◌, ◌∙◌, ◌+◌, [], length, true, Some, None, is_some, ap, sym, inr, arith}
 use Rattle.std.proofs.lemmas.Bool.{OnTrue_at}
-use Rattle.bar_terms.specs.Room.{TableWithRoom}
+use Rattle.bar_terms.specs.Code.Room.{TableWithRoom}
 use Rattle.bar_wire.specs.declared.shape.Shape.{Shape}
 use Rattle.bar_judge.specs.TableFile.{NoByte, Entry, NoEntry, RoundList, first_of, list_after}
-use Rattle.bar_judge.specs.TableViews.{plain_list}
+use Rattle.bar_judge.specs.Code.TableViews.{plain_list}
 use Rattle.bar_judge.proofs.TableReading.{read_none, read_end, read_cut, read_refused, read_out, read_more, cost_of_round, cost_within}
 use Rattle.bar_judge.proofs.reading.read_table.Goals as goal
 

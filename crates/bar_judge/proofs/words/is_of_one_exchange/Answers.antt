@@ -1,7 +1,7 @@
 use Rattle.std.proofs.Common.{◌≡◌, ◌∙◌, Some, None, sym, ap, option_map, rules}
 use Rattle.bar_window.specs.Exchange.{same_exchange}
-use Rattle.bar_wire.specs.Sides.{place_in}
-use Rattle.bar_wire.specs.Views.{datagram}
+use Rattle.bar_wire.specs.Code.Sides.{place_in}
+use Rattle.bar_wire.specs.Code.Views.{datagram}
 use Rattle.bar_judge.proofs.Messages.{place_told}
 use Rattle.bar_judge.proofs.words.is_of_one_exchange.Goals as goal
 

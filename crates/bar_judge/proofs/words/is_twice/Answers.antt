@@ -4,7 +4,7 @@ use Rattle.std.specs.Str.{bytes_eq}
 use Rattle.bar_seal.specs.Identities.{identity}
 use Rattle.bar_seal.specs.declared.identities.Identity.{Identity}
 use Rattle.bar_wire.specs.Datagram.{Message, identity_of, is_signed}
-use Rattle.bar_wire.specs.Views.{datagram}
+use Rattle.bar_wire.specs.Code.Views.{datagram}
 use Rattle.bar_rules.specs.Values.{message_bytes}
 use Rattle.bar_judge.proofs.Messages.{apart}
 use Rattle.bar_judge.proofs.words.is_twice.Goals as goal

@@ -4,7 +4,7 @@ use Rattle.std.proofs.lemmas.List.{take_all}
 use Rattle.std.proofs.lemmas.Slice.{overwrites}
 use Rattle.sha2.specs.Sha256.{digest_bytes}
 use Rattle.sha2.proofs.Absorbing256.{digest_more}
-use Rattle.bar_lanes.specs.Lane.{hash_lane}
+use Rattle.bar_lanes.specs.Code.Lane.{hash_lane}
 use Rattle.bar_lanes.proofs.LaneLemmas.{slice_index-hash_lane}
 use Rattle.bar_lanes.proofs.eight.digest_at.Goals as goal
 

@@ -1,6 +1,6 @@
 use Rattle.std.proofs.Common.{◌≡◌, ◌*◌, length, take}
 use Rattle.sha2.specs.Sha256.{digest_bytes}
-use Rattle.bar_lanes.specs.Lane.{hash_lane}
+use Rattle.bar_lanes.specs.Code.Lane.{hash_lane}
 use Rattle.bar_lanes.proofs.eight.digest_at.Given as goal
 
 abbrev pub invariant-words : goal.invariant-words

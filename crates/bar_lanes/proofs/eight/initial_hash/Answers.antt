@@ -1,6 +1,6 @@
 use Rattle.std.proofs.Common.{◌≡◌, refl, map, replicate}
 use Rattle.sha2.specs.Sha256.{initial_hash_256}
-use Rattle.bar_lanes.specs.Lane.{hash_lane}
+use Rattle.bar_lanes.specs.Code.Lane.{hash_lane}
 use Rattle.bar_lanes.proofs.LaneLemmas.{below_eight}
 use Rattle.bar_lanes.proofs.eight.initial_hash.Goals as goal
 

@@ -1,6 +1,6 @@
 use Rattle.std.proofs.Common.{◌++◌, ◌*◌, ◌/◌, ◌%◌, ◌^◌, ap, bit_or, length, slice_index, sym, ◌∙◌}
 use Rattle.sha2.specs.Sha256.{padded_message}
-use Rattle.bar_lanes.specs.Lane.{tail_lane}
+use Rattle.bar_lanes.specs.Code.Lane.{tail_lane}
 use Rattle.bar_lanes.proofs.LaneLemmas.{splat_lane}
 use Rattle.bar_lanes.proofs.TailLemmas.{IsWords, scheduled_tail, seen_lane, tail_length, word_10, word_11, word_12, word_13, word_14, word_15, word_5, word_6, word_7, word_8, word_9}
 use Rattle.bar_lanes.proofs.head.put_tails.Goals as goal

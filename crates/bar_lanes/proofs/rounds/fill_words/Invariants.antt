@@ -1,5 +1,5 @@
 use Rattle.std.proofs.Common.{◌≡◌, ℕ, ◌*◌, ◌<◌, List}
-use Rattle.bar_lanes.specs.Lane.{IsScheduled}
+use Rattle.bar_lanes.specs.Code.Lane.{IsScheduled}
 use Rattle.bar_lanes.proofs.rounds.fill_words.Given as goal
 
 abbrev pub invariant-fours : goal.invariant-fours

@@ -1,6 +1,6 @@
 use Rattle.std.proofs.Common.{ap, ◌∙◌, arith}
 use Rattle.sha2.specs.Sha256.{rounds, schedule, compress, add_state}
-use Rattle.bar_lanes.specs.Lane.{hash_lane}
+use Rattle.bar_lanes.specs.Code.Lane.{hash_lane}
 use Rattle.bar_lanes.proofs.rounds.last_steps.Goals as goal
 
 pub fours-init : goal.fours-init

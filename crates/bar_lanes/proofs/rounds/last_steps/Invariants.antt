@@ -1,6 +1,6 @@
 use Rattle.std.proofs.Common.{◌≡◌, ℕ, ◌*◌, ◌<◌, List}
 use Rattle.sha2.specs.Sha256.{rounds, schedule}
-use Rattle.bar_lanes.specs.Lane.{hash_lane, IsScheduled}
+use Rattle.bar_lanes.specs.Code.Lane.{hash_lane, IsScheduled}
 use Rattle.bar_lanes.proofs.rounds.last_steps.Given as goal
 
 abbrev pub invariant-fours : goal.invariant-fours

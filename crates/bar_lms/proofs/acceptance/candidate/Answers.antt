@@ -2,7 +2,7 @@ use Rattle.std.proofs.Common.{◌≡◌, ◌+◌, ◌*◌, ◌^◌, ◌%◌, tak
 use Rattle.std.proofs.lemmas.List.{take_rest}
 use Rattle.bar_lms.specs.Params.{levels, chains, last}
 use Rattle.bar_lms.specs.Chains.{joined, steps_left, message_hash, one_time_key}
-use Rattle.bar_lms.specs.Order.{longest_by_eights}
+use Rattle.bar_lms.specs.Code.Order.{longest_by_eights}
 use Rattle.bar_lms.specs.Tree.{climb, leaf_node}
 use Rattle.bar_lms.specs.Signature.{candidate, candidate_steps, hash_at, end_at}
 use Rattle.bar_lms.proofs.DigitLemmas.{level_facts}

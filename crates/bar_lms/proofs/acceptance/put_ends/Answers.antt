@@ -1,7 +1,7 @@
 use Rattle.std.proofs.Common.{◌≡◌, slice_index, arith}
 use Rattle.bar_lms.specs.Params.{chains, last}
 use Rattle.bar_lms.specs.Chains.{steps_left}
-use Rattle.bar_lms.specs.Order.{reached, longest_by_eights}
+use Rattle.bar_lms.specs.Code.Order.{reached, longest_by_eights}
 use Rattle.bar_lms.specs.Signature.{end_at}
 use Rattle.bar_lms.proofs.OrderLemmas.{longest_same}
 use Rattle.bar_lms.proofs.acceptance.put_ends.Goals as goal

@@ -1,32 +1,32 @@
 use Rattle.std.proofs.Common.{◌≡◌, ℕ, ◌+◌, ◌-◌, ◌*◌, ◌<◌, slice_index, refl, arith, inl, inr}
 use Rattle.std.proofs.lemmas.Bool.{cases_lt}
 use Rattle.bar_lms.specs.Chains.{most_of, pair_at, in_pairs}
-use Rattle.bar_lms.specs.Order.{steps_at}
+use Rattle.bar_lms.specs.Code.Order.{steps_at}
 use Rattle.bar_lms.proofs.GroupLemmas.{pairs_more, most_same}
 use Rattle.bar_lms.proofs.all_chains.take_pairs.Goals as goal
 
 pub groups-init : goal.groups-init
 unfolding in_pairs
-groups-init g c = record { value = λ j below. absurd (omega (arith, below)); cost = omega arith }
+groups-init g c = record { value = λ ident q j heads below. absurd (omega (arith, below)); cost = omega arith }
 
 pub groups-preserved : goal.groups-preserved
 groups-preserved g c =
     let n = 16 * c.groups.g in
     let order = slice_index c.args.order.now in
     record {
-      value = λ j below.
+      value = λ ident q j heads below.
           elim (cases_lt j n) [
-            | inl old ↦ c.take_sixteen.ensures.kept (order j) (c.groups.invariant.value j old)
+            | inl old ↦ c.take_sixteen.ensures.kept ident q (order j) heads (c.groups.invariant.value ident q j heads old)
             | inr past ↦
                 elim (cases_lt j (n + 8)) [
                   | inl less ↦
                       let few : j - n < 8 = omega (arith, less, past) in
                       let place : n + (j - n) ≡ j = omega (arith, past) in
-                      rw (c.eight_from-first.ensures (j - n) few, place) at (c.take_sixteen.ensures.first (j - n) few)
+                      rw (c.eight_from-first.ensures (j - n) few, place) at (c.take_sixteen.ensures.first ident q (j - n) heads few)
                   | inr more ↦
                       let few : n + 15 - j < 8 = omega (arith, more) in
                       let place : n + 15 - (n + 15 - j) ≡ j = omega (arith, more, below) in
-                      rw (c.eight_back_from-second.ensures (n + 15 - j) few, place) at (c.take_sixteen.ensures.second (n + 15 - j) few)
+                      rw (c.eight_back_from-second.ensures (n + 15 - j) few, place) at (c.take_sixteen.ensures.second ident q (n + 15 - j) heads few)
                 ]
           ];
       cost =

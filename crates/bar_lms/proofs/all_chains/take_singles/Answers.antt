@@ -2,7 +2,7 @@ use Rattle.std.proofs.Common.{◌≡◌, ◌+◌, ◌-◌, ◌*◌, ◌/◌, ◌
 use Rattle.std.proofs.lemmas.Bool.{cases_eq}
 use Rattle.std.proofs.lemmas.List.{length-set}
 use Rattle.bar_lms.specs.Chains.{total_from}
-use Rattle.bar_lms.specs.Order.{steps_at, reached}
+use Rattle.bar_lms.specs.Code.Order.{steps_at, reached}
 use Rattle.bar_lms.proofs.GroupLemmas.{from_more}
 use Rattle.bar_lms.proofs.OrderLemmas.{set_right, set_there}
 use Rattle.bar_lms.proofs.all_chains.take_singles.Goals as goal

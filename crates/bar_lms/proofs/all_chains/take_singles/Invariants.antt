@@ -1,6 +1,6 @@
 use Rattle.std.proofs.Common.{◌≡◌, ℕ, ◌+◌, ◌-◌, ◌*◌, ◌/◌, ◌<◌, [], length, slice_index, slice_index_or}
 use Rattle.bar_lms.specs.Chains.{total_from}
-use Rattle.bar_lms.specs.Order.{reached, steps_at}
+use Rattle.bar_lms.specs.Code.Order.{reached, steps_at}
 use Rattle.bar_lms.proofs.all_chains.take_singles.Given as goal
 
 abbrev pub invariant-singles : goal.invariant-singles

@@ -3,7 +3,7 @@ use Rattle.std.proofs.lemmas.List.{get_or-replicate}
 use Rattle.std.specs.Int.{w32, to_be_bytes}
 use Rattle.sha2.specs.Sha256.{sha256}
 use Rattle.bar_lms.specs.Chains.{most_of}
-use Rattle.bar_lms.specs.Lanes.{Leg, leg_of, lane_steps}
+use Rattle.bar_lms.specs.Code.Lanes.{Leg, leg_of, lane_steps}
 use Rattle.bar_lms.proofs.ChainLemmas.{place_length}
 use Rattle.bar_lms.proofs.GroupLemmas.{most_above, most_same}
 use Rattle.bar_lms.proofs.LaneLemmas.{held_none, begun_by, end_kept, held_more, second_whole}
@@ -12,29 +12,26 @@ use Rattle.bar_lms.proofs.groups.sixteen_chains.Goals as goal
 
 pub steps-init : goal.steps-init
 steps-init g c = record {
-  held = λ j below.
-      let a : Leg = leg_of c.args.ident.now c.args.q c.args.first.now j in
-      let b : Leg = leg_of c.args.ident.now c.args.q c.args.second.now j in
+  held = λ ident q j heads below.
+      let a : Leg = leg_of ident q c.args.first.now j in
+      let b : Leg = leg_of ident q c.args.second.now j in
       held_none a b 0 _ (c.tails_of-tails.ensures.bytes j below) (omega arith)
-      (starts_so c.args.ident.now c.args.q (slice_index c.args.first.now.numbers j) a.from a.value _ _ (c.tails_of-tails.ensures.held j below)
+      (starts_so ident q (slice_index c.args.first.now.numbers j) a.from a.value _ _ (c.tails_of-tails.ensures.held j below)
       (c.new.ensures j below));
-  ended = λ j below less. absurd (omega (arith, less));
+  ended = λ ident q j heads below less. absurd (omega (arith, less));
   cost = omega arith;
 }
 
 pub steps-preserved : goal.steps-preserved
 steps-preserved g c =
-    let ident = c.args.ident.now in
-    let q = c.args.q in
-    let head = ident ++ to_be_bytes w32 q in
-    let long : length head ≡ 20 = length-append ident (to_be_bytes w32 q) ∙ omega arith in
     record {
-      held = λ j below.
+      held = λ ident q j heads below.
+          let head = ident ++ to_be_bytes w32 q in
+          let long : length head ≡ 20 = length-append ident (to_be_bytes w32 q) ∙ omega (arith, heads.0) in
           let a : Leg = leg_of ident q c.args.first.now j in
           let b : Leg = leg_of ident q c.args.second.now j in
           let none : slice_index (replicate 8 0) j ≡ 0 = get_or-replicate 8 j 0 0 below in
           let firsts : slice_index c.lane_steps-firsts.result j ≡ a.count = omega (arith, c.lane_steps-firsts.ensures j below, none) in
-          let leaf : slice_index (replicate 8 q) j ≡ q = get_or-replicate 8 j q 0 below in
           let tail = slice_index_or c.steps.tails j [] in
           let second = slice_index_or c.tails_of-seconds.result j [] in
           let taken = slice_index_or c.take-in-steps.new.self j [] in
@@ -47,17 +44,19 @@ steps-preserved g c =
           let takes = ap (λ t. head ++ t) (rw firsts at (c.take-in-steps.ensures j below)) ∙ behind_if (a.count == c.steps.n) head second tail in
           let begun =
           begun_by a b c.steps.n (head ++ tail) (head ++ second) (head ++ taken) (c.tails_of-seconds.ensures.bytes j below)
-          (c.steps.invariant.held j below) begins takes
+          (c.steps.invariant.held ident q j heads below) begins takes
           in
-          let hashed : hash ≡ sha256 (head ++ taken) = rw (c.heads_of-heads.ensures j below, leaf) at (c.hash-hashes.ensures j below) in
+          let hashed : hash ≡ sha256 (head ++ taken) = rw (heads.1 j below) at (c.hash-hashes.ensures j below) in
           let goes =
           ap (λ t. head ++ t) (c.go_on.ensures j below)
           ∙ behind_goes (nat_lt c.steps.n (slice_index c.lane_steps-counts.result j)) head taken hash long
           in
-          held_more a b c.steps.n (head ++ taken) hash (head ++ next) (place_length ident q (slice_index c.args.first.now.numbers j) (omega arith))
-          (place_length ident q (slice_index c.args.second.now.numbers j) (omega arith)) (c.requires.first j below)
+          held_more a b c.steps.n (head ++ taken) hash (head ++ next) (place_length ident q (slice_index c.args.first.now.numbers j) heads.0)
+          (place_length ident q (slice_index c.args.second.now.numbers j) heads.0) (c.requires.first j below)
           (c.requires.second j below) begun hashed (rw (c.lane_steps-counts.ensures j below) at goes);
-      ended = λ j below less.
+      ended = λ ident q j heads below less.
+          let head = ident ++ to_be_bytes w32 q in
+          let long : length head ≡ 20 = length-append ident (to_be_bytes w32 q) ∙ omega (arith, heads.0) in
           let a : Leg = leg_of ident q c.args.first.now j in
           let b : Leg = leg_of ident q c.args.second.now j in
           let none : slice_index (replicate 8 0) j ≡ 0 = get_or-replicate 8 j 0 0 below in
@@ -65,17 +64,15 @@ steps-preserved g c =
           let tail = slice_index_or c.steps.tails j [] in
           let value = c.values.ensures j below ∙ behind_value head tail long in
           end_kept a b c.steps.n (head ++ tail) (slice_index_or c.steps.kept j []) (slice_index_or c.take.new.self j [])
-          (place_length ident q (slice_index c.args.first.now.numbers j) (omega arith)) (c.steps.invariant.held j below)
-          (c.steps.invariant.ended j below) (rw (firsts, value) at (c.take.ensures j below)) (omega (arith, less));
+          (place_length ident q (slice_index c.args.first.now.numbers j) heads.0) (c.steps.invariant.held ident q j heads below)
+          (c.steps.invariant.ended ident q j heads below) (rw (firsts, value) at (c.take.ensures j below)) (omega (arith, less));
       cost = omega arith;
     }
 
 pub returns-clause-first : goal.returns-clause-first
-returns-clause-first g c = λ j below.
-    let ident = c.args.ident.now in
-    let q = c.args.q in
+returns-clause-first g c = λ ident q j heads below.
     let head = ident ++ to_be_bytes w32 q in
-    let long : length head ≡ 20 = length-append ident (to_be_bytes w32 q) ∙ omega arith in
+    let long : length head ≡ 20 = length-append ident (to_be_bytes w32 q) ∙ omega (arith, heads.0) in
     let a : Leg = leg_of ident q c.args.first.now j in
     let b : Leg = leg_of ident q c.args.second.now j in
     let none : slice_index (replicate 8 0) j ≡ 0 = get_or-replicate 8 j 0 0 below in
@@ -88,15 +85,13 @@ returns-clause-first g c = λ j below.
     let value = c.values-2.ensures j below ∙ behind_value head tail long in
     c.to_bytes.ensures j below
     ∙ end_kept a b c.steps.n (head ++ tail) (slice_index_or c.steps.kept j []) (slice_index_or c.take-2.new.self j [])
-    (place_length ident q (slice_index c.args.first.now.numbers j) (omega arith)) (c.steps.invariant.held j below)
-    (c.steps.invariant.ended j below) (rw (firsts, value, whole) at (c.take-2.ensures j below)) over
+    (place_length ident q (slice_index c.args.first.now.numbers j) heads.0) (c.steps.invariant.held ident q j heads below)
+    (c.steps.invariant.ended ident q j heads below) (rw (firsts, value, whole) at (c.take-2.ensures j below)) over
 
 pub returns-clause-second : goal.returns-clause-second
-returns-clause-second g c = λ j below.
-    let ident = c.args.ident.now in
-    let q = c.args.q in
+returns-clause-second g c = λ ident q j heads below.
     let head = ident ++ to_be_bytes w32 q in
-    let long : length head ≡ 20 = length-append ident (to_be_bytes w32 q) ∙ omega arith in
+    let long : length head ≡ 20 = length-append ident (to_be_bytes w32 q) ∙ omega (arith, heads.0) in
     let a : Leg = leg_of ident q c.args.first.now j in
     let b : Leg = leg_of ident q c.args.second.now j in
     let none : slice_index (replicate 8 0) j ≡ 0 = get_or-replicate 8 j 0 0 below in
@@ -115,12 +110,12 @@ returns-clause-second g c = λ j below.
     let takes = ap (λ t. head ++ t) (rw (firsts, whole) at (c.take-3.ensures j below)) ∙ behind_if (a.count == c.steps.n) head second tail in
     let begun =
     begun_by a b c.steps.n (head ++ tail) (head ++ second) (head ++ taken) (c.tails_of-seconds.ensures.bytes j below)
-    (c.steps.invariant.held j below) begins takes
+    (c.steps.invariant.held ident q j heads below) begins takes
     in
     c.to_bytes-2.ensures j below
     ∙ (c.values-3.ensures j below
     ∙ (behind_value head taken long
-    ∙ second_whole a b c.steps.n (head ++ taken) (place_length ident q (slice_index c.args.second.now.numbers j) (omega arith)) over begun))
+    ∙ second_whole a b c.steps.n (head ++ taken) (place_length ident q (slice_index c.args.second.now.numbers j) heads.0) over begun))
 
 pub returns-clause-cost : goal.returns-clause-cost
 returns-clause-cost g c =

@@ -2,7 +2,7 @@ use Rattle.std.proofs.Common.{◌≡◌, ◌<◌, [], replicate, slice_index, sl
 use Rattle.std.proofs.lemmas.List.{get_or-replicate}
 use Rattle.bar_lms.specs.Params.{chains}
 use Rattle.bar_lms.specs.Chains.{chain}
-use Rattle.bar_lms.specs.Order.{reached, longest_by_eights}
+use Rattle.bar_lms.specs.Code.Order.{reached, longest_by_eights}
 use Rattle.bar_lms.specs.Tree.{value}
 use Rattle.bar_lms.proofs.DigitLemmas.{few_chains}
 use Rattle.bar_lms.proofs.OrderLemmas.{longest_ones}

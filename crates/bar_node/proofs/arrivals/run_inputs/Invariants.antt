@@ -1,7 +1,7 @@
 use Rattle.std.proofs.Common.{◌+◌, ◌-◌, ◌*◌}
 use Rattle.bar_outside.specs.Disk.{Content}
-use Rattle.bar_node.specs.Taking.{layout_of}
-use Rattle.bar_node.specs.Turns.{sent}
+use Rattle.bar_node.specs.Code.Taking.{layout_of}
+use Rattle.bar_node.specs.Code.Turns.{sent}
 use Rattle.bar_node.proofs.RunSteps.{Arrived}
 use Rattle.bar_node.proofs.arrivals.run_inputs.Given as goal
 

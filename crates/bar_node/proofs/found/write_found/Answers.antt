@@ -1,7 +1,7 @@
 use Rattle.std.proofs.Common.{◌≡◌, List, subst, ◌∙◌}
-use Rattle.bar_bytes.specs.Rooms.{kept_in}
+use Rattle.bar_bytes.specs.Code.Rooms.{kept_in}
 use Rattle.bar_outside.specs.Plan.{with_files}
-use Rattle.bar_outside.specs.Follows.{Follows}
+use Rattle.bar_outside.specs.Code.Follows.{Follows}
 use Rattle.bar_findings.specs.Findings.{Finding, findings_actions, findings_of}
 use Rattle.bar_findings.proofs.SameFindings.{findings-same}
 use Rattle.bar_node.specs.Runs.{found_after}

@@ -1,7 +1,7 @@
 use Rattle.std.proofs.Common.{[], ◌∷◌, ◌++◌, take, refl, ap, length, sym, ◌∙◌}
 use Rattle.std.proofs.lemmas.Result.{err_from_is_err_and}
 use Rattle.bar_outside.proofs.Following.{nothing_done}
-use Rattle.bar_node.specs.Counting.{capped}
+use Rattle.bar_node.specs.Code.Counting.{capped}
 use Rattle.bar_node.proofs.Each.{one-more, stopped-at, split-more, split-end, all-done}
 use Rattle.bar_node.proofs.GivingOut.{keeps-same, keeps-on, count-send}
 use Rattle.bar_node.proofs.giving.give_all.Goals as goal

@@ -1,7 +1,7 @@
 use Rattle.std.proofs.Common.{Ok}
 use Rattle.std.specs.List.{flat_map}
 use Rattle.bar_outside.specs.Plan.{Outside}
-use Rattle.bar_outside.specs.Follows.{Follows}
+use Rattle.bar_outside.specs.Code.Follows.{Follows}
 use Rattle.bar_node.proofs.GivingOut.{Sending}
 use Rattle.bar_node.proofs.giving.give_all.Given as goal
 

@@ -2,7 +2,7 @@ use Rattle.std.proofs.Common.{[], ◌∷◌, ◌++◌, take, refl, ◌∙◌}
 use Rattle.std.specs.Option.{option_copied}
 use Rattle.std.proofs.lemmas.Result.{err_from_is_err_and}
 use Rattle.bar_outside.proofs.Following.{nothing_done}
-use Rattle.bar_node.specs.Turns.{kept}
+use Rattle.bar_node.specs.Code.Turns.{kept}
 use Rattle.bar_node.proofs.Each.{one-more, stopped-at, split-more, all-done}
 use Rattle.bar_node.proofs.GivingOut.{keeps-same, keeps-on, count-content}
 use Rattle.bar_node.proofs.giving.play_all.Goals as goal

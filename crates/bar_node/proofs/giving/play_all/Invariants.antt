@@ -3,8 +3,8 @@ use Rattle.std.specs.List.{flat_map}
 use Rattle.std.specs.Option.{option_copied}
 use Rattle.bar_outside.specs.Disk.{Content}
 use Rattle.bar_outside.specs.Plan.{Outside, with_files}
-use Rattle.bar_outside.specs.Follows.{Follows}
-use Rattle.bar_node.specs.Turns.{kept}
+use Rattle.bar_outside.specs.Code.Follows.{Follows}
+use Rattle.bar_node.specs.Code.Turns.{kept}
 use Rattle.bar_node.proofs.GivingOut.{Playing}
 use Rattle.bar_node.proofs.giving.play_all.Given as goal
 

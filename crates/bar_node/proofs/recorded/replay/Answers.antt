@@ -1,21 +1,21 @@
 use Rattle.std.proofs.Common.{◌≡◌, ℕ, List, [], ap, subst, Result}
 use Rattle.std.proofs.lemmas.Result.{err_from_is_err_and}
 use Rattle.bar_wire.specs.Inputs.{Input}
-use Rattle.bar_record.specs.Inputs.{inputs_left}
+use Rattle.bar_record.specs.Code.Inputs.{inputs_left}
 use Rattle.bar_record.specs.Pacing.{paced}
 use Rattle.bar_outside.specs.Plan.{Outside, with_out}
-use Rattle.bar_outside.specs.Follows.{Follows}
+use Rattle.bar_outside.specs.Code.Follows.{Follows}
 use Rattle.bar_outside.specs.declared.fault.Fault.{Fault}
 use Rattle.bar_outside.proofs.Following.{answered, handed, no_memory}
 use Rattle.bar_core.specs.Rules.{Rules}
 use Rattle.bar_findings.specs.Findings.{findings_actions}
-use Rattle.bar_node.specs.Turns.{turns, replay_layout}
+use Rattle.bar_node.specs.Code.Turns.{turns, replay_layout}
 use Rattle.bar_node.specs.Runs.{found_after}
 use Rattle.bar_node.proofs.Parts.{first-stopped, then-second}
 use Rattle.bar_node.proofs.RunEnds.{summary-is}
 use Rattle.bar_node.proofs.recorded.replay.Goals as goal
 
--- what was found, by the same rules
+-- the findings by equal rules are written alike
 found-along : {T : Type 0} (rules r : Rules) (found : List ℕ) (taken : List Input) (old new : Outside) (q : Result T Fault) → rules ≡ r →
     Follows (findings_actions (found_after found rules taken)) old new q → Follows (findings_actions (found_after found r taken)) old new q
 found-along rules r found taken old new q same f =

@@ -1,10 +1,10 @@
 use Rattle.std.proofs.Common.{[], refl, arith}
 use Rattle.std.proofs.lemmas.Result.{err_from_is_err_and}
 use Rattle.bar_wire.specs.Inputs.{plain_input}
-use Rattle.bar_record.specs.Inputs.{inputs_left}
+use Rattle.bar_record.specs.Code.Inputs.{inputs_left}
 use Rattle.bar_record.proofs.DueLemmas.{not-late}
 use Rattle.bar_outside.proofs.Following.{nothing_done, answered}
-use Rattle.bar_node.specs.Turns.{replay_layout}
+use Rattle.bar_node.specs.Code.Turns.{replay_layout}
 use Rattle.bar_node.proofs.Turning.{took-none, turns-along, took-along}
 use Rattle.bar_node.proofs.Shown.{count-exact, shown-whole, shown-over, shown-stopped, shown-then, shown-more}
 use Rattle.bar_node.proofs.recorded.show_inputs.Goals as goal

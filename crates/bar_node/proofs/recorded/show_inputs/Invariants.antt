@@ -1,9 +1,9 @@
 use Rattle.std.proofs.Common.{[], Ok}
-use Rattle.bar_record.specs.Inputs.{inputs_left}
+use Rattle.bar_record.specs.Code.Inputs.{inputs_left}
 use Rattle.bar_outside.specs.Disk.{Content}
 use Rattle.bar_outside.specs.Plan.{Outside, with_files, with_out}
-use Rattle.bar_outside.specs.Follows.{Follows}
-use Rattle.bar_node.specs.Turns.{turns, replay_layout}
+use Rattle.bar_outside.specs.Code.Follows.{Follows}
+use Rattle.bar_node.specs.Code.Turns.{turns, replay_layout}
 use Rattle.bar_node.proofs.Shown.{Shown}
 use Rattle.bar_node.proofs.recorded.show_inputs.Given as goal
 

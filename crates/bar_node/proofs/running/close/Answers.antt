@@ -2,7 +2,7 @@ use Rattle.std.proofs.Common.{[], ◌∷◌}
 use Rattle.std.specs.Option.{option_copied}
 use Rattle.std.proofs.lemmas.Result.{err_from_is_err_and}
 use Rattle.bar_findings.specs.Findings.{findings_actions}
-use Rattle.bar_node.specs.Turns.{kept}
+use Rattle.bar_node.specs.Code.Turns.{kept}
 use Rattle.bar_node.specs.Runs.{found_after}
 use Rattle.bar_node.proofs.Parts.{first-stopped, then-second}
 use Rattle.bar_node.proofs.running.close.Goals as goal

@@ -3,7 +3,7 @@ use Rattle.std.proofs.lemmas.Result.{err_from_is_err_and}
 use Rattle.bar_wire.specs.Inputs.{plain_input}
 use Rattle.bar_outside.specs.Plan.{with_files}
 use Rattle.bar_outside.proofs.Following.{answered, handed}
-use Rattle.bar_node.specs.Taking.{layout_of}
+use Rattle.bar_node.specs.Code.Taking.{layout_of}
 use Rattle.bar_node.proofs.Turning.{counted-one, stopped-entering, stopped-playing, then-sending}
 use Rattle.bar_node.proofs.turn.take_input.Goals as goal
 

@@ -3,7 +3,7 @@ use Rattle.std.proofs.lemmas.Result.{err_from_is_err_and}
 use Rattle.bar_wire.specs.Inputs.{Input, Tick, plain_input}
 use Rattle.bar_core.specs.Rules.{Rules}
 use Rattle.bar_outside.proofs.Following.{answered}
-use Rattle.bar_node.specs.Taking.{layout_of}
+use Rattle.bar_node.specs.Code.Taking.{layout_of}
 use Rattle.bar_node.proofs.Turning.{turns-then, turns-stopped, turns-along, took-both, took-along}
 use Rattle.bar_record.proofs.DueLemmas.{due-plain, due-last, due-both, due-first}
 use Rattle.bar_node.proofs.turn.take_paced.Goals as goal

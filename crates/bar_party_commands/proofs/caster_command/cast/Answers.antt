@@ -2,10 +2,10 @@ use Rattle.std.proofs.Common.{◌∙◌, ap, sym, None}
 use Rattle.std.proofs.lemmas.Result.{err_from_is_err_and}
 use Rattle.bar_core.specs.Rules.{Rules}
 use Rattle.bar_node.specs.Runs.{summary_of, taken_of}
-use Rattle.bar_outside.specs.MemTaken.{bound_in}
-use Rattle.bar_caster.specs.Core.{caster_rules}
-use Rattle.bar_caster.specs.Memory.{member_of, stream_of}
-use Rattle.bar_party_commands.specs.Views.{caster_view}
+use Rattle.bar_outside.specs.Code.MemTaken.{bound_in}
+use Rattle.bar_caster.specs.Code.Core.{caster_rules}
+use Rattle.bar_caster.specs.Code.Memory.{member_of, stream_of}
+use Rattle.bar_party_commands.specs.Code.Views.{caster_view}
 use Rattle.bar_party_commands.proofs.Planned.{caster-behind-run, caster-in-run, caster-unbound, caster-unspent}
 use Rattle.bar_party_commands.proofs.Unprinted.{never-file, never-link}
 use Rattle.bar_party_commands.proofs.caster_command.cast.Goals as goal

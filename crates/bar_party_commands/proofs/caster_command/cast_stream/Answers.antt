@@ -1,9 +1,9 @@
 use Rattle.std.proofs.Common.{◌≡◌, ◌∙◌, Err, Ok, ap, length, refl, sym}
 use Rattle.std.proofs.lemmas.Result.{err_from_is_err_and}
-use Rattle.bar_caster.specs.Memory.{stream_of}
+use Rattle.bar_caster.specs.Code.Memory.{stream_of}
 use Rattle.bar_party_commands.specs.Streams.{no_room, room_of, stream_in}
 use Rattle.bar_party_commands.specs.CasterPlan.{caster_actions, rules_by}
-use Rattle.bar_party_commands.specs.Views.{caster_view}
+use Rattle.bar_party_commands.specs.Code.Views.{caster_view}
 use Rattle.bar_party_commands.proofs.Adding.{can-caster}
 use Rattle.bar_party_commands.proofs.Planned.{placed}
 use Rattle.bar_party_commands.proofs.RunEnding.{accepted-so, following, refused-so, unmeant, unread}

@@ -4,10 +4,10 @@ use Rattle.bar_core.specs.Rules.{Rules}
 use Rattle.bar_node.specs.Runs.{summary_of, taken_of}
 use Rattle.bar_outside.specs.Wire.{bound_by}
 use Rattle.bar_peer.specs.Core.{peer_rules}
-use Rattle.bar_peer.specs.Memory.{member_of}
+use Rattle.bar_peer.specs.Code.Memory.{member_of}
 use Rattle.bar_record.specs.Recording.{head_bytes}
 use Rattle.bar_wire.specs.declared.shape.Shape.{Shape}
-use Rattle.bar_party_commands.specs.Views.{peer_view}
+use Rattle.bar_party_commands.specs.Code.Views.{peer_view}
 use Rattle.bar_party_commands.proofs.Planned.{peer-behind-run, peer-in-run, peer-unbegun, peer-unbound, peer-unspent, placed}
 use Rattle.bar_party_commands.proofs.RunFollowing.{run-memory}
 use Rattle.bar_party_commands.proofs.Unprinted.{never-file, never-link}

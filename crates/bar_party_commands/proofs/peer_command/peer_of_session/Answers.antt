@@ -4,7 +4,7 @@ use Rattle.bar_roster.specs.declared.key_fault.KeyFileFault.TheVariants.{NoMemor
 use Rattle.bar_session_files.specs.Accepting.{fresh_key_of}
 use Rattle.bar_party_commands.specs.PeerPlan.{peer_actions, rules_by}
 use Rattle.bar_session_files.specs.Refusals.{key_refused}
-use Rattle.bar_party_commands.specs.Views.{peer_view}
+use Rattle.bar_party_commands.specs.Code.Views.{peer_view}
 use Rattle.bar_party_commands.proofs.Adding.{can-peer}
 use Rattle.bar_party_commands.proofs.RunEnding.{accepted-so, following, other-fault, refused-so, unmeant, unread}
 use Rattle.bar_party_commands.proofs.Unprinted.{unprinted-at}

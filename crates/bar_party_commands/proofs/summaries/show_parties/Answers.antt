@@ -1,5 +1,5 @@
 use Rattle.std.proofs.lemmas.Result.{err_from_is_err_and}
-use Rattle.bar_bytes.specs.Rooms.{kept_in}
+use Rattle.bar_bytes.specs.Code.Rooms.{kept_in}
 use Rattle.bar_findings.proofs.Writing.{all-written, one-unwritten, one-written}
 use Rattle.bar_party_commands.specs.Summaries.{shown_if}
 use Rattle.bar_party_commands.proofs.Shown.{same-join}

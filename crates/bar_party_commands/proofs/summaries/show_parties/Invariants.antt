@@ -1,7 +1,7 @@
 use Rattle.std.proofs.Common.{Ok}
-use Rattle.bar_bytes.specs.Rooms.{kept_in}
+use Rattle.bar_bytes.specs.Code.Rooms.{kept_in}
 use Rattle.bar_outside.specs.Plan.{Outside, with_out}
-use Rattle.bar_outside.specs.Follows.{Follows}
+use Rattle.bar_outside.specs.Code.Follows.{Follows}
 use Rattle.bar_party_commands.specs.Summaries.{shown_parties}
 use Rattle.bar_party_commands.proofs.summaries.show_parties.Given as goal
 

@@ -1,7 +1,7 @@
 use Rattle.std.proofs.Common.{sym, ap, ◌∙◌}
 use Rattle.std.specs.Option.{option_copied}
 use Rattle.std.proofs.lemmas.Result.{err_from_is_err_and}
-use Rattle.bar_bytes.specs.Rooms.{kept_in}
+use Rattle.bar_bytes.specs.Code.Rooms.{kept_in}
 use Rattle.bar_outside.proofs.Following.{no_memory}
 use Rattle.bar_party_commands.proofs.Shown.{party-shown}
 use Rattle.bar_party_commands.proofs.summaries.show_party.Goals as goal

@@ -1,4 +1,4 @@
-use Rattle.bar_world.specs.Kept.{IsReady}
+use Rattle.bar_world.specs.Code.Kept.{IsReady}
 use Rattle.bar_party_tests.proofs.world_tests.deliver_all.Given as goal
 
 abbrev pub invariant-loop : goal.invariant-loop

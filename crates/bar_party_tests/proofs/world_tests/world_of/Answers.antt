@@ -5,7 +5,7 @@ use Rattle.bar_rules.specs.Member.{Session}
 use Rattle.bar_rules.specs.World.World.{IsSetup}
 use Rattle.bar_world.specs.Keys.{key_by, keys_by}
 use Rattle.bar_world.specs.Made.{session_by}
-use Rattle.bar_world.specs.Setups.{AreOfParties, setup_of}
+use Rattle.bar_world.specs.Code.Setups.{AreOfParties, setup_of}
 use Rattle.bar_world.proofs.KeyFiles.{held-is}
 use Rattle.bar_party_tests.proofs.world_tests.world_of.Goals as goal
 

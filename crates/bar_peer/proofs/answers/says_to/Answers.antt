@@ -1,13 +1,13 @@
 use Rattle.std.proofs.Common.{◌≡◌, ◌∙◌, Option, Some, refl, sym, ap, subst}
 use Rattle.std.specs.Prelude.{option_map, IfSome}
 use Rattle.bar_wire.specs.Datagram.{Place, place_of}
-use Rattle.bar_wire.specs.Sides.{place_in}
-use Rattle.bar_wire.specs.Views.{plain}
+use Rattle.bar_wire.specs.Code.Sides.{place_in}
+use Rattle.bar_wire.specs.Code.Views.{plain}
 use Rattle.bar_session.specs.Time.{round_after}
 use Rattle.bar_rules.specs.Member.{Member}
 use Rattle.bar_rules.specs.Peer.Agreement.{IsRecent}
-use Rattle.bar_exchange.specs.Placing.{message_in}
-use Rattle.bar_peer.specs.Memory.{member_of}
+use Rattle.bar_exchange.specs.Code.Placing.{message_in}
+use Rattle.bar_peer.specs.Code.Memory.{member_of}
 use Rattle.bar_peer.proofs.Replying.NoExchange.{no_orders}
 use Rattle.bar_peer.proofs.answers.says_to.Goals as goal
 

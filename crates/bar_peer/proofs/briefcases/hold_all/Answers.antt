@@ -3,8 +3,8 @@ use Rattle.std.specs.Option.{option_or}
 use Rattle.bar_terms.specs.Table.{digests_of}
 use Rattle.bar_terms.specs.declared.items.Item.{Item}
 use Rattle.bar_terms.specs.declared.items.Item.TheVariants.{Update}
-use Rattle.bar_store.specs.Held.{block_in}
-use Rattle.bar_peer.specs.Opening.{block_in_item, block_in_items}
+use Rattle.bar_store.specs.Code.Held.{block_in}
+use Rattle.bar_peer.specs.Code.Opening.{block_in_item, block_in_items}
 use Rattle.bar_peer.proofs.Hearing.Items.{items_more, or_or}
 use Rattle.bar_peer.proofs.briefcases.hold_all.Goals as goal
 

@@ -2,8 +2,8 @@ use Rattle.std.proofs.Common.{◌≡◌, take}
 use Rattle.std.specs.Option.{option_or}
 use Rattle.bar_window.specs.declared.update.UpdateId.{UpdateId}
 use Rattle.bar_terms.specs.Table.{digests_of}
-use Rattle.bar_store.specs.Held.{block_in, HasSame}
-use Rattle.bar_peer.specs.Opening.{block_in_items}
+use Rattle.bar_store.specs.Code.Held.{block_in, HasSame}
+use Rattle.bar_peer.specs.Code.Opening.{block_in_items}
 use Rattle.bar_peer.proofs.briefcases.hold_all.Given as goal
 
 abbrev pub invariant-loop-place : goal.invariant-loop-place

@@ -1,7 +1,7 @@
 use Rattle.std.proofs.Common.{◌≡◌, ◌∙◌, ◌∷◌, true, false, sym, ap, subst}
 use Rattle.std.proofs.lemmas.Bool.{false≢true}
 use Rattle.bar_wire.specs.Datagram.{Datagram}
-use Rattle.bar_wire.specs.Views.{datagram}
+use Rattle.bar_wire.specs.Code.Views.{datagram}
 use Rattle.bar_rules.specs.Member.{Member}
 use Rattle.bar_rules.specs.Peer.Admission.{is_admitted}
 use Rattle.bar_rules.specs.Peer.Knowledge.{known}
@@ -11,9 +11,9 @@ use Rattle.bar_rules.specs.Peer.Rules.{IsObedient}
 use Rattle.bar_rules.specs.Runs.{begun}
 use Rattle.std.specs.Bool.{then_some}
 use Rattle.bar_laws.specs.Soundness.{IsSound}
-use Rattle.bar_balanced.specs.Balanced.{AreSpelled}
-use Rattle.bar_peer.specs.Memory.{member_of}
-use Rattle.bar_peer.specs.Sending.{HasOutcome}
+use Rattle.bar_balanced.specs.Code.Balanced.{AreSpelled}
+use Rattle.bar_peer.specs.Code.Memory.{member_of}
+use Rattle.bar_peer.specs.Code.Sending.{HasOutcome}
 use Rattle.bar_peer.proofs.Replying.Answering.{nothing-changed, answered-before, answered-new, answered-again, new-replied, repeat-answered, not-repeated, apart, received}
 use Rattle.bar_laws.proofs.Fitting.{perform_all-before}
 use Rattle.bar_peer.proofs.Orders.Sendings.{none_stand}

@@ -1,18 +1,18 @@
 use Rattle.std.proofs.Common.{◌≡◌, ◌<◌, ◌∙◌, List, ℕ, Option, is_some, length, sym, ap, subst, arith}
 use Rattle.std.proofs.lemmas.Bool.{false≢true}
 use Rattle.bar_wire.specs.Datagram.{Datagram}
-use Rattle.bar_wire.specs.Views.{datagram}
+use Rattle.bar_wire.specs.Code.Views.{datagram}
 use Rattle.bar_rules.specs.Member.{Member}
 use Rattle.bar_rules.specs.Peer.Evidence.{new_evidence}
 use Rattle.bar_rules.specs.Peer.Knowledge.{known}
 use Rattle.bar_rules.specs.Peer.Run.{answered_to, with_evidence}
 use Rattle.bar_peer.specs.declared.credentials.Credentials.{Credentials}
-use Rattle.bar_peer.specs.Memory.{member_of}
-use Rattle.bar_peer.specs.Sending.{HasOutcome}
+use Rattle.bar_peer.specs.Code.Memory.{member_of}
+use Rattle.bar_peer.specs.Code.Sending.{HasOutcome}
 use Rattle.bar_rules.specs.Peer.Replies.{repeated}
 use Rattle.bar_rules.specs.Peer.Rules.{IsObedient}
 use Rattle.bar_peer.specs.declared.memory.Memory.{Memory}
-use Rattle.bar_peer.specs.Memory.{Represents}
+use Rattle.bar_peer.specs.Code.Memory.{Represents}
 use Rattle.bar_peer.proofs.Stepping.Ignored.{TellsNothing, nothing-told}
 use Rattle.bar_peer.proofs.Stepping.Datagrams.{AreObedient, Answers, admitted-still, obeyed, tried-stands, untried-stands}
 use Rattle.bar_peer.proofs.intake.answer_tried.Goals as goal

@@ -1,14 +1,14 @@
 use Rattle.std.proofs.Common.{◌≡◌, ◌∙◌, List, ℕ, Option, None, sym, subst, arith}
 use Rattle.bar_wire.specs.Datagram.{Datagram}
-use Rattle.bar_wire.specs.Views.{datagram}
+use Rattle.bar_wire.specs.Code.Views.{datagram}
 use Rattle.bar_rules.specs.Member.{Member}
 use Rattle.bar_rules.specs.Peer.Evidence.{new_evidence}
 use Rattle.bar_rules.specs.Peer.Knowledge.{Knowledge, known}
 use Rattle.bar_rules.specs.Peer.Rules.{IsObedient}
 use Rattle.bar_rules.specs.Peer.Run.{answered_to, report_new, with_evidence}
 use Rattle.bar_laws.specs.Soundness.{IsSound}
-use Rattle.bar_peer.specs.Memory.{member_of}
-use Rattle.bar_peer.specs.Sending.{HasOutcome}
+use Rattle.bar_peer.specs.Code.Memory.{member_of}
+use Rattle.bar_peer.specs.Code.Sending.{HasOutcome}
 use Rattle.bar_peer.proofs.Stepping.Ignored.{TellsNothing, nothing-told}
 use Rattle.bar_peer.proofs.Stepping.Guards.{checks_again, checks_more, remembers_still}
 use Rattle.bar_peer.proofs.Stepping.Datagrams.{AreObedient, obeyed, none-new}

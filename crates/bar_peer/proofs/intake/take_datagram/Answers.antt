@@ -4,22 +4,22 @@ use Rattle.std.specs.Option.{option_map_or}
 use Rattle.std.proofs.lemmas.Bool.{false≢true}
 use Rattle.bar_wire.specs.Datagram.{Datagram}
 use Rattle.bar_wire.specs.Places as places
-use Rattle.bar_wire.specs.Views.{datagram}
+use Rattle.bar_wire.specs.Code.Views.{datagram}
 use Rattle.bar_wire.specs.declared.shape.Shape.{Shape}
 use Rattle.bar_rules.specs.Member.{Member}
 use Rattle.bar_rules.specs.Values.{datagram_of}
 use Rattle.bar_rules.specs.Peer.Rules.{IsObedient}
 use Rattle.bar_rules.specs.Peer.Run.{take_datagram}
-use Rattle.bar_peer.specs.Memory.{member_of}
-use Rattle.bar_peer.specs.Sending.{HasOutcome}
+use Rattle.bar_peer.specs.Code.Memory.{member_of}
+use Rattle.bar_peer.specs.Code.Sending.{HasOutcome}
 use Rattle.bar_rules.specs.Peer.Knowledge.{known}
 use Rattle.bar_laws.specs.Ignoring.{tells_nothing}
-use Rattle.bar_peer.specs.Checking.{Checks, RemembersAdmitted, shown}
+use Rattle.bar_peer.specs.Code.Checking.{Checks, RemembersAdmitted, shown}
 use Rattle.bar_peer.proofs.intake.take_datagram.Given.{Over}
 use Rattle.bar_peer.proofs.intake.take_datagram.Goals as goal
 use Rattle.bar_peer.proofs.intake.take_datagram.Goals.{In-Ok}
 
--- what is read is what the bytes spell
+-- the decoded datagram is the one that the bytes encode
 read : (g : Over) (c : In-Ok g)
     → Some (datagram c.args.memory.now.who.session.shape c.in-Ok.view) ≡ datagram_of c.args.memory.now.who.session c.args.bytes.now
 read g c = c.in-Ok.ensures.told ∙ ap (λ (shape : Shape). places.datagram_of shape c.args.bytes.now) c.shape-shape.ensures.value

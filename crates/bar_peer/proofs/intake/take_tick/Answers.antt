@@ -2,10 +2,10 @@ use Rattle.std.proofs.Common.{◌≤◌, ◌∷◌, sym, subst}
 use Rattle.bar_rules.specs.Peer.Log.{Ticked}
 use Rattle.bar_rules.specs.Peer.Rules.{IsObedient}
 use Rattle.bar_peer.specs.declared.credentials.Credentials.{Credentials}
-use Rattle.bar_peer.specs.Memory.{member_of}
-use Rattle.bar_peer.specs.Sending.{HasOutcome}
-use Rattle.bar_peer.specs.Steps.{ticked}
-use Rattle.bar_peer.specs.Ticking.{most_orders}
+use Rattle.bar_peer.specs.Code.Memory.{member_of}
+use Rattle.bar_peer.specs.Code.Sending.{HasOutcome}
+use Rattle.bar_peer.specs.Code.Steps.{ticked}
+use Rattle.bar_peer.specs.Code.Ticking.{most_orders}
 use Rattle.bar_peer.proofs.intake.take_tick.Goals as goal
 
 pub returns-clause-stands : goal.returns-clause-stands

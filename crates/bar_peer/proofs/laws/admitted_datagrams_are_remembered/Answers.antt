@@ -1,9 +1,9 @@
 use Rattle.std.proofs.Common.{◌≡◌, true, List, [], ◌∷◌, Some, sym, subst, refl}
 use Rattle.std.specs.Prelude.{slice_get}
 use Rattle.std.proofs.lemmas.Option.{same_Some}
-use Rattle.bar_seal.specs.Memo.{Pair, has_pair}
+use Rattle.bar_seal.specs.Code.Memo.{Pair, has_pair}
 use Rattle.bar_seal.proofs.Remembered.{same_self}
-use Rattle.bar_peer.specs.Checking.{checked_in}
+use Rattle.bar_peer.specs.Code.Checking.{checked_in}
 use Rattle.bar_peer.proofs.laws.admitted_datagrams_are_remembered.Goals as goal
 
 first_is_there : (p : Pair) (ps : List Pair) → slice_get ps 0 ≡ Some p → has_pair p ps ≡ true

@@ -1,6 +1,6 @@
 use Rattle.std.proofs.Common.{◌≡◌, ◌∙◌, sym, subst, take}
-use Rattle.bar_peer.specs.Giving.{IsOrderDue}
-use Rattle.bar_peer.specs.Memory.{member_of}
+use Rattle.bar_peer.specs.Code.Giving.{IsOrderDue}
+use Rattle.bar_peer.specs.Code.Memory.{member_of}
 use Rattle.bar_peer.proofs.Giving.Kept.{kept_more}
 use Rattle.bar_peer.proofs.outgoing.keep_case.Goals as goal
 

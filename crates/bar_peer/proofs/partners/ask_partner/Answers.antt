@@ -12,9 +12,9 @@ use Rattle.bar_rules.specs.Peer.Ticks.{asking_partner}
 use Rattle.bar_rules.specs.Secrets.{partner_of, seed_of}
 use Rattle.bar_laws.proofs.Logs.{role-initiator}
 use Rattle.bar_peer.specs.declared.order.Order.TheVariants as queued
-use Rattle.bar_peer.specs.Memory.{member_of}
-use Rattle.bar_peer.specs.Sending.{IsTimely, IsCarriedOut, HasOutcome}
-use Rattle.bar_peer.specs.Ticking.{is_unasked}
+use Rattle.bar_peer.specs.Code.Memory.{member_of}
+use Rattle.bar_peer.specs.Code.Sending.{IsTimely, IsCarriedOut, HasOutcome}
+use Rattle.bar_peer.specs.Code.Ticking.{is_unasked}
 use Rattle.bar_peer.proofs.Ticking.Partner.{partner_is, none_asked, one_asked, asks_timely, carried_stands}
 use Rattle.bar_peer.proofs.Orders.Growth.{grows}
 use Rattle.bar_peer.proofs.partners.ask_partner.Goals as goal

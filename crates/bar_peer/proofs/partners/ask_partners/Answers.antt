@@ -1,14 +1,14 @@
 use Rattle.std.proofs.Common.{◌≡◌, ◌∙◌, ℕ, true, false, nat_lt, length, take, sym, ap, subst, arith}
 use Rattle.std.proofs.lemmas.Bool.{lt-ltb, le-ltb}
-use Rattle.bar_window.specs.Window.{members}
+use Rattle.bar_window.specs.Code.Window.{members}
 use Rattle.bar_window.specs.declared.exchange.XKind.TheVariants.{Push}
 use Rattle.bar_session.specs.Time.{round_after}
 use Rattle.bar_rules.specs.Member.{Member}
 use Rattle.bar_rules.specs.Peer.Choices.{young_of}
 use Rattle.bar_rules.specs.Peer.Knowledge.{Knowledge, known, this_round}
 use Rattle.bar_peer.specs.declared.credentials.Credentials.{Credentials}
-use Rattle.bar_peer.specs.Memory.{member_of}
-use Rattle.bar_peer.specs.Ticking.{AsksPartner}
+use Rattle.bar_peer.specs.Code.Memory.{member_of}
+use Rattle.bar_peer.specs.Code.Ticking.{AsksPartner}
 use Rattle.bar_peer.proofs.Ticking.Requests.{both_asked, balanced_asked}
 use Rattle.bar_peer.proofs.partners.ask_partners.Goals as goal
 

@@ -1,9 +1,9 @@
 use Rattle.std.proofs.Common.{Bool, ◌∙◌, sym, refl, subst, arith}
 use Rattle.bar_rules.specs.Peer.Knowledge.{Knowledge, known}
 use Rattle.bar_rules.specs.Peer.Run.{perform}
-use Rattle.bar_exchange.specs.Says.{order_by}
-use Rattle.bar_peer.specs.Memory.{member_of}
-use Rattle.bar_peer.specs.Sending.{IsCarriedOut}
+use Rattle.bar_exchange.specs.Code.Says.{order_by}
+use Rattle.bar_peer.specs.Code.Memory.{member_of}
+use Rattle.bar_peer.specs.Code.Sending.{IsCarriedOut}
 use Rattle.bar_peer.proofs.Orders.Outcomes.{stands_sent, stands_unsent}
 use Rattle.bar_peer.proofs.Orders.Recency.{recent_by_time}
 use Rattle.bar_peer.proofs.Orders.Repeats.{repeated}

@@ -5,10 +5,10 @@ use Rattle.bar_rules.specs.Member.{Member}
 use Rattle.bar_rules.specs.Peer.Knowledge.{known}
 use Rattle.bar_rules.specs.Peer.Run.{perform_all}
 use Rattle.bar_peer.specs.declared.order.Order.TheVariants as queued
-use Rattle.bar_peer.specs.Orders.{Orders}
-use Rattle.bar_peer.specs.Memory.{member_of}
-use Rattle.bar_peer.specs.Sending.{HasOutcome}
-use Rattle.bar_peer.specs.Ticking.{is_reported}
+use Rattle.bar_peer.specs.Code.Orders.{Orders}
+use Rattle.bar_peer.specs.Code.Memory.{member_of}
+use Rattle.bar_peer.specs.Code.Sending.{HasOutcome}
+use Rattle.bar_peer.specs.Code.Ticking.{is_reported}
 use Rattle.bar_peer.proofs.Ticking.Reports.{reports_to, same_reported, one_reported, not_due, IsPushed}
 use Rattle.bar_peer.proofs.reports.report_all.Goals as goal
 use Rattle.bar_peer.proofs.reports.report_all.Goals.{then-is_reported, else-is_reported}

@@ -1,12 +1,12 @@
 use Rattle.std.proofs.Common.{◌≡◌, ◌+◌, ◌≤◌, ℕ, length}
 use Rattle.bar_rules.specs.Peer.Knowledge.{Knowledge, known}
 use Rattle.bar_rules.specs.Peer.Run.{Out, perform_all}
-use Rattle.bar_peer.specs.Memory.{member_of}
-use Rattle.bar_peer.specs.Sending.{HasOutcome}
+use Rattle.bar_peer.specs.Code.Memory.{member_of}
+use Rattle.bar_peer.specs.Code.Sending.{HasOutcome}
 use Rattle.bar_peer.proofs.Ticking.Reports.{reports_to}
 use Rattle.bar_peer.proofs.reports.report_all.Given as goal
 
--- the reports against the peers so far stand
+-- the outcome has the reports against the peers before the current one
 abbrev pub invariant-loop-party : goal.invariant-loop-party
 invariant-loop-party l = record {
   done : ℕ;

@@ -5,9 +5,9 @@ use Rattle.bar_wire.specs.Inputs as event
 use Rattle.bar_rules.specs.Member.{Member}
 use Rattle.bar_rules.specs.Peer.Rules.{IsObedient}
 use Rattle.bar_rules.specs.Peer.Run.{take_input}
-use Rattle.bar_peer.specs.Memory.{member_of}
-use Rattle.bar_peer.specs.Sending.{HasOutcome}
-use Rattle.bar_peer.specs.Steps.{is_tick}
+use Rattle.bar_peer.specs.Code.Memory.{member_of}
+use Rattle.bar_peer.specs.Code.Sending.{HasOutcome}
+use Rattle.bar_peer.specs.Code.Steps.{is_tick}
 use Rattle.bar_rules.specs.Peer.Knowledge.{known}
 use Rattle.bar_laws.specs.Ignoring.{is_ignored, is_unread}
 use Rattle.bar_peer.proofs.steps.take_input.Goals as goal

@@ -1,7 +1,7 @@
 use Rattle.std.proofs.Common.{◌∙◌, ◌==◌, ℕ, refl, sym, ap, subst, arith}
 use Rattle.bar_session.specs.Time.{slot_after}
 use Rattle.bar_peer.specs.declared.memory.Memory.{Memory}
-use Rattle.bar_peer.specs.Orders.{Orders}
+use Rattle.bar_peer.specs.Code.Orders.{Orders}
 use Rattle.bar_peer.proofs.Ticking.All.{IsAsked, asked_at_tick, unasked_at_tick, reported_at_tick, unreported_at_tick}
 use Rattle.bar_peer.proofs.ticks.act.Goals as goal
 use Rattle.bar_peer.proofs.ticks.act.Goals.{then-is_first_slot, else-is_first_slot}

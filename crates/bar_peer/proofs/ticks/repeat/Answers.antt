@@ -4,8 +4,8 @@ use Rattle.bar_rules.specs.Member.{Member}
 use Rattle.bar_rules.specs.Peer.Knowledge.{Knowledge, known}
 use Rattle.bar_rules.specs.Peer.Run.{Out}
 use Rattle.bar_peer.specs.declared.order.Order.TheVariants as queued
-use Rattle.bar_peer.specs.Memory.{member_of}
-use Rattle.bar_peer.specs.Sending.{send_now, HasOutcome}
+use Rattle.bar_peer.specs.Code.Memory.{member_of}
+use Rattle.bar_peer.specs.Code.Sending.{send_now, HasOutcome}
 use Rattle.bar_peer.proofs.Orders.Recency.{recent_by_time}
 use Rattle.bar_peer.proofs.Orders.Sendings.{sent_again, stands_with, pushed, not_pushed}
 use Rattle.bar_peer.proofs.ticks.repeat.Goals as goal

@@ -3,8 +3,8 @@ use Rattle.std.specs.List.{flat_map}
 use Rattle.std.proofs.lemmas.List.{flat_map_more, length_push}
 use Rattle.bar_window.specs.declared.exchange.Exchange.{Exchange}
 use Rattle.bar_wire.specs.declared.shape.Shape.{Shape}
-use Rattle.bar_ledger.specs.Memory.{opens_in}
-use Rattle.bar_ledger.specs.Order.{above}
+use Rattle.bar_ledger.specs.Code.Memory.{opens_in}
+use Rattle.bar_ledger.specs.Code.Order.{above}
 use Rattle.bar_ledger.proofs.Rising.{above-all}
 use Rattle.bar_rules.specs.Member.{Member}
 use Rattle.bar_rules.specs.Peer.Agreement.{IsRecent}
@@ -13,9 +13,9 @@ use Rattle.bar_rules.specs.Peer.Log.{Log}
 use Rattle.bar_rules.specs.Peer.Orders.{Order}
 use Rattle.bar_rules.specs.Peer.Run.{Out, perform_all}
 use Rattle.bar_rules.specs.Runs.{begun}
-use Rattle.bar_peer.specs.Memory.{member_of}
-use Rattle.bar_peer.specs.Sending.{HasOutcome}
-use Rattle.bar_peer.specs.Ticking.{orders_of_open}
+use Rattle.bar_peer.specs.Code.Memory.{member_of}
+use Rattle.bar_peer.specs.Code.Sending.{HasOutcome}
+use Rattle.bar_peer.specs.Code.Ticking.{orders_of_open}
 use Rattle.bar_peer.proofs.Ticking.OpenExchanges.{one_done, open_is_recent}
 use Rattle.bar_laws.proofs.Repeating.{all-append}
 use Rattle.bar_peer.proofs.Orders.Sendings.{none_stand}

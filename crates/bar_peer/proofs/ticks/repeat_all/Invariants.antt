@@ -1,18 +1,18 @@
 use Rattle.std.proofs.Common.{◌≡◌, ◌+◌, ◌*◌, ◌≤◌, ◌++◌, [], List, length}
 use Rattle.std.specs.List.{flat_map}
 use Rattle.bar_window.specs.declared.exchange.Exchange.{Exchange}
-use Rattle.bar_ledger.specs.Memory.{opens_in}
-use Rattle.bar_ledger.specs.Order.{above}
+use Rattle.bar_ledger.specs.Code.Memory.{opens_in}
+use Rattle.bar_ledger.specs.Code.Order.{above}
 use Rattle.bar_rules.specs.Peer.Knowledge.{known}
 use Rattle.bar_rules.specs.Peer.Log.{Log}
 use Rattle.bar_rules.specs.Peer.Run.{perform_all}
 use Rattle.bar_rules.specs.Runs.{begun}
-use Rattle.bar_peer.specs.Memory.{member_of, Represents}
-use Rattle.bar_peer.specs.Sending.{HasOutcome}
-use Rattle.bar_peer.specs.Ticking.{orders_of_open, most_orders}
+use Rattle.bar_peer.specs.Code.Memory.{member_of, Represents}
+use Rattle.bar_peer.specs.Code.Sending.{HasOutcome}
+use Rattle.bar_peer.specs.Code.Ticking.{orders_of_open, most_orders}
 use Rattle.bar_peer.proofs.ticks.repeat_all.Given as goal
 
--- the orders of the exchanges so far stand, and the others are left
+-- the outcome has the orders of the exchanges before the current one, and the other exchanges are left
 abbrev pub invariant-loop : goal.invariant-loop
 invariant-loop l = record {
   done : List Exchange;

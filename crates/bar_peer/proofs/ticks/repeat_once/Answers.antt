@@ -5,11 +5,11 @@ use Rattle.bar_rules.specs.Peer.Knowledge.{Knowledge, known}
 use Rattle.bar_rules.specs.Peer.Log.{Log}
 use Rattle.bar_rules.specs.Peer.Orders.{Order}
 use Rattle.bar_rules.specs.Peer.Run.{Out, perform, perform_all}
-use Rattle.bar_exchange.specs.Says.{order_again, orders_at_tick}
+use Rattle.bar_exchange.specs.Code.Says.{order_again, orders_at_tick}
 use Rattle.bar_exchange.specs.declared.say.Say.{Say}
-use Rattle.bar_peer.specs.Memory.{member_of}
-use Rattle.bar_peer.specs.Sending.{IsTimely, HasOutcome}
-use Rattle.bar_peer.specs.Ticking.{orders_of_open}
+use Rattle.bar_peer.specs.Code.Memory.{member_of}
+use Rattle.bar_peer.specs.Code.Sending.{IsTimely, HasOutcome}
+use Rattle.bar_peer.specs.Code.Ticking.{orders_of_open}
 use Rattle.bar_peer.proofs.Orders.Sendings.{state_again}
 use Rattle.bar_peer.proofs.Ticking.Timely.{again_is_timely}
 use Rattle.bar_peer.proofs.ticks.repeat_once.Goals as goal

@@ -2,8 +2,8 @@ use Rattle.std.proofs.Common.{ap, sym}
 use Rattle.std.specs.Prelude.{is_some}
 use Rattle.bar_terms.specs.Table.{digests_of}
 use Rattle.bar_wire.specs.Bodies.{briefcase_in, key_in}
-use Rattle.bar_wire.specs.Views.{datagram, plain}
-use Rattle.bar_judge.specs.Parts.{plain_briefcase}
+use Rattle.bar_wire.specs.Code.Views.{datagram, plain}
+use Rattle.bar_judge.specs.Code.Parts.{plain_briefcase}
 use Rattle.bar_proof.proofs.BadItems.{opened-valid, bad-told}
 use Rattle.bar_proof.proofs.items.bad_round.Goals as goal
 

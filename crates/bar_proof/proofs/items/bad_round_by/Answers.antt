@@ -2,7 +2,7 @@ use Rattle.std.proofs.Common.{arith}
 use Rattle.std.proofs.lemmas.Bool.{and_parts}
 use Rattle.bar_window.specs.Terms.{plain_terms}
 use Rattle.bar_terms.specs.Table.{no_lists}
-use Rattle.bar_judge.specs.Parts.{plain_briefcase}
+use Rattle.bar_judge.specs.Code.Parts.{plain_briefcase}
 use Rattle.bar_proof.proofs.BadItems.{HasCounts, counts-are}
 use Rattle.bar_proof.proofs.items.bad_round_by.Goals as goal
 

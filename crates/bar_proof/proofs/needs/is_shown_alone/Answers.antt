@@ -1,10 +1,10 @@
 use Rattle.std.proofs.Common.{◌≡◌, ◌∙◌, [], ap}
 use Rattle.std.specs.Prelude.{is_some}
 use Rattle.bar_terms.specs.Table.{Lists, digests_of}
-use Rattle.bar_terms.specs.Room.{TableWithRoom}
+use Rattle.bar_terms.specs.Code.Room.{TableWithRoom}
 use Rattle.bar_rules.specs.Judge.Verdict.{fault_of}
-use Rattle.bar_judge.specs.Parts.{datagrams, with_second}
-use Rattle.bar_judge.specs.Verdicts.{plain_fault}
+use Rattle.bar_judge.specs.Code.Parts.{datagrams, with_second}
+use Rattle.bar_judge.specs.Code.Verdicts.{plain_fault}
 use Rattle.bar_proof.proofs.NeedLemmas.{same-datagrams, is-some-mapped}
 use Rattle.bar_proof.proofs.needs.is_shown_alone.Goals as goal
 

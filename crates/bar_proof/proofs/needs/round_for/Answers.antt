@@ -1,9 +1,9 @@
 use Rattle.std.proofs.Common.{ap, sym, ◌∙◌}
 use Rattle.std.specs.Prelude.{is_some}
 use Rattle.bar_terms.specs.Table.{digests_of, no_lists}
-use Rattle.bar_wire.specs.Views.{datagram}
+use Rattle.bar_wire.specs.Code.Views.{datagram}
 use Rattle.bar_rules.specs.Judge.Verdict.{fault_of}
-use Rattle.bar_judge.specs.Parts.{with_second}
+use Rattle.bar_judge.specs.Code.Parts.{with_second}
 use Rattle.bar_proof.proofs.NeedLemmas.{open-badly}
 use Rattle.bar_proof.proofs.needs.round_for.Goals as goal
 

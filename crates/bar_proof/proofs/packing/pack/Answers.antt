@@ -5,7 +5,7 @@ use Rattle.bar_terms.specs.Table.{digests_of}
 use Rattle.bar_wire.specs.Evidence.{datagrams_of}
 use Rattle.bar_rules.specs.Judge.Verdict.{Shown, verdict}
 use Rattle.bar_judge.specs.TableFile.{table_of}
-use Rattle.bar_judge.specs.Verdicts.{plain_fault}
+use Rattle.bar_judge.specs.Code.Verdicts.{plain_fault}
 use Rattle.bar_proof.specs.Needs.{needs}
 use Rattle.bar_proof.specs.ProofFile.{AreShort, file_bytes, is_of_round, manifests_for}
 use Rattle.bar_proof.proofs.PackedFiles.{packed}

@@ -1,7 +1,7 @@
 use Rattle.std.proofs.Common.{◌≡◌, ◌∙◌, ◌+◌, ◌||◌, sym, true, arith}
 use Rattle.std.specs.List.{list_any}
 use Rattle.std.proofs.lemmas.Bool.{or_left, or_right}
-use Rattle.bar_window.specs.Window.{members}
+use Rattle.bar_window.specs.Code.Window.{members}
 use Rattle.bar_terms.specs.Table.{digests_of}
 use Rattle.bar_proof.proofs.PastRounds.{is_past_in, none-yet, none-more, first-is, none-is}
 use Rattle.bar_proof.proofs.past.first_past.Goals.{then-has_past-via-then-has_past, then-has_past-via-else-has_past+then-has_past-2}

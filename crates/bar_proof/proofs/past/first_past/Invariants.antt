@@ -1,5 +1,5 @@
 use Rattle.std.proofs.Common.{◌+◌}
-use Rattle.bar_window.specs.Window.{members}
+use Rattle.bar_window.specs.Code.Window.{members}
 use Rattle.bar_terms.specs.Table.{digests_of}
 use Rattle.bar_proof.proofs.PastRounds.{NoneBefore}
 use Rattle.bar_proof.proofs.past.first_past.Given as goal

@@ -1,5 +1,5 @@
 use Rattle.std.proofs.Common.{sym, ◌∙◌, arith}
-use Rattle.bar_window.specs.Window.{members}
+use Rattle.bar_window.specs.Code.Window.{members}
 use Rattle.bar_window.proofs.Widths.{most_places}
 use Rattle.bar_terms.specs.Table.{digests_of}
 use Rattle.bar_terms.proofs.Ends.{has_one, has_none}

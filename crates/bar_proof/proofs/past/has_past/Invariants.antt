@@ -1,6 +1,6 @@
 use Rattle.std.proofs.Common.{◌≡◌, ℕ, ◌<◌, ◌≤◌, false}
 use Rattle.bar_window.specs.Updates.{has_update}
-use Rattle.bar_window.specs.Window.{members}
+use Rattle.bar_window.specs.Code.Window.{members}
 use Rattle.bar_proof.proofs.past.has_past.Given as goal
 
 abbrev pub invariant-loop-index : goal.invariant-loop-index

@@ -1,5 +1,5 @@
 use Rattle.std.proofs.Common.{◌∙◌, sym}
-use Rattle.bar_window.specs.Window.{members}
+use Rattle.bar_window.specs.Code.Window.{members}
 use Rattle.bar_terms.specs.Table.{digests_of}
 use Rattle.bar_terms.specs.Terms.{offer_ok}
 use Rattle.bar_push.proofs.asking.is_valid_offer.Goals as goal

@@ -1,4 +1,4 @@
-use Rattle.bar_window.specs.Window.{members}
+use Rattle.bar_window.specs.Code.Window.{members}
 use Rattle.bar_push.proofs.Held.{answer_is}
 use Rattle.bar_push.proofs.choosing.answer_to_offer.Goals as goal
 

@@ -1,4 +1,4 @@
-use Rattle.bar_window.specs.Window.{members}
+use Rattle.bar_window.specs.Code.Window.{members}
 use Rattle.bar_exchange.proofs.PartKept.{no_entry}
 use Rattle.bar_push.proofs.ReplyKept.{reply_of, reply_learned, no_trade}
 use Rattle.bar_push.proofs.keeping.keep_reply.Goals as goal

@@ -2,8 +2,8 @@ use Rattle.std.proofs.Common.{◌∙◌, Some, sym, ap}
 use Rattle.std.specs.Prelude.{option_and_then, option_map}
 use Rattle.bar_window.specs.declared.terms.Terms.{Terms}
 use Rattle.bar_window.specs.Terms.{plain_terms}
-use Rattle.bar_window.specs.Window.{members}
-use Rattle.bar_ledger.specs.Lookups.{knows_offer, offer_of}
+use Rattle.bar_window.specs.Code.Window.{members}
+use Rattle.bar_ledger.specs.Code.Lookups.{knows_offer, offer_of}
 use Rattle.bar_exchange.proofs.Knowing.{is_known}
 use Rattle.bar_push.proofs.known.offered.Goals as goal
 

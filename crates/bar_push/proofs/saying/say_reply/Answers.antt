@@ -9,8 +9,8 @@ use Rattle.bar_wire.specs.declared.kind.Kind.{Kind}
 use Rattle.bar_wire.specs.declared.kind.Kind.TheVariants as kinds
 use Rattle.bar_rules.specs.Peer.Exchanges.{answer_kind, role_of}
 use Rattle.bar_ledger.specs.declared.entry.Entry.{Entry}
-use Rattle.bar_ledger.specs.Lookups.{commit_of, offer_of}
-use Rattle.bar_exchange.specs.Keeping.{IsSaidNow}
+use Rattle.bar_ledger.specs.Code.Lookups.{commit_of, offer_of}
+use Rattle.bar_exchange.specs.Code.Keeping.{IsSaidNow}
 use Rattle.bar_exchange.proofs.Marks.{found_by, one_none, some_found}
 use Rattle.bar_exchange.proofs.Said.{placed}
 use Rattle.bar_push.proofs.Replied.{offers_same, no_trade, replied, offer_in_entry, reply_is, wants_some}

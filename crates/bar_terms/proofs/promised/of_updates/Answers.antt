@@ -1,6 +1,6 @@
 use Rattle.std.proofs.Common.{◌≡◌, take, map, sym, ap, ◌∙◌, arith}
 use Rattle.std.proofs.lemmas.List.{take_all}
-use Rattle.bar_window.specs.Window.{members}
+use Rattle.bar_window.specs.Code.Window.{members}
 use Rattle.bar_terms.specs.declared.items.Item.TheVariants.{Update}
 use Rattle.bar_terms.proofs.promised.of_updates.Goals as goal
 

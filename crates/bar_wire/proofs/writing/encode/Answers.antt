@@ -4,8 +4,8 @@ use Rattle.bar_bytes.specs.Bytes.{u16_bytes}
 use Rattle.bar_wire.specs.Kinds.{code_of}
 use Rattle.bar_wire.specs.Datagram.{Message}
 use Rattle.bar_wire.specs.Grammar.{pieces, message_bytes}
-use Rattle.bar_wire.specs.Views.{plain}
-use Rattle.bar_bytes.specs.Putting.{Appends}
+use Rattle.bar_wire.specs.Code.Views.{plain}
+use Rattle.bar_bytes.specs.Code.Putting.{Appends}
 use Rattle.bar_wire.proofs.Writes.{writes_then, writes_same}
 use Rattle.bar_wire.proofs.Written.{written_is, message_len}
 use Rattle.bar_wire.proofs.writing.encode.Goals as goal

@@ -2,8 +2,8 @@ use Rattle.std.proofs.Common.{sym, subst}
 use Rattle.std.specs.List.{concat}
 use Rattle.bar_wire.specs.declared.view.Body.{Body as RawBody}
 use Rattle.bar_wire.specs.Grammar.{pieces}
-use Rattle.bar_wire.specs.Views.{plain, AreWindows}
-use Rattle.bar_bytes.specs.Putting.{Appends}
+use Rattle.bar_wire.specs.Code.Views.{plain, AreWindows}
+use Rattle.bar_bytes.specs.Code.Putting.{Appends}
 use Rattle.bar_wire.proofs.Writes.{writes_then, writes_last}
 use Rattle.bar_wire.proofs.writing.put_body.Goals as goal
 

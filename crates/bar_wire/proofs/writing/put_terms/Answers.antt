@@ -3,8 +3,8 @@ use Rattle.std.specs.List.{concat}
 use Rattle.bar_window.specs.declared.terms.Terms.{Terms as RawTerms}
 use Rattle.bar_window.specs.Terms.{plain_terms}
 use Rattle.bar_wire.specs.Grammar.{term_pieces}
-use Rattle.bar_wire.specs.Views.{AreTermWindows}
-use Rattle.bar_bytes.specs.Putting.{Appends}
+use Rattle.bar_wire.specs.Code.Views.{AreTermWindows}
+use Rattle.bar_bytes.specs.Code.Putting.{Appends}
 use Rattle.bar_wire.proofs.Writes.{writes_then, writes_last}
 use Rattle.bar_wire.proofs.writing.put_terms.Goals as goal
 

@@ -1,11 +1,11 @@
 use Rattle.std.proofs.Common.{◌≡◌, ◌++◌, List, length}
 use Rattle.std.specs.List.{concat}
 use Rattle.bar_wire.specs.Inputs.{Input}
-use Rattle.bar_core.specs.Face.{Keeps}
+use Rattle.bar_core.specs.Code.Face.{Keeps}
 use Rattle.bar_core.specs.Rules.{Send}
 use Rattle.bar_world.proofs.feeding.play_all.Given as goal
 
--- what was played so far and what is left are what was played at first and what was left then
+-- the contents played so far, followed by those that are left, are the same as at the start
 abbrev pub invariant-contents : goal.invariant-contents
 invariant-contents g l =
     let face = g.C.Core.face in

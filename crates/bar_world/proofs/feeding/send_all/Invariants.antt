@@ -1,11 +1,11 @@
 use Rattle.std.proofs.Common.{◌≡◌, ◌++◌, List}
 use Rattle.bar_wire.specs.Inputs.{Input}
-use Rattle.bar_core.specs.Face.{Keeps}
+use Rattle.bar_core.specs.Code.Face.{Keeps}
 use Rattle.bar_core.specs.Rules.{Send}
-use Rattle.bar_world.specs.Packets.{packets_of}
+use Rattle.bar_world.specs.Code.Packets.{packets_of}
 use Rattle.bar_world.proofs.feeding.send_all.Given as goal
 
--- the packets so far and what is left are the packets at first and what was left then
+-- the packets so far, followed by those that are left, are the same as at the start
 abbrev pub invariant-datagrams : goal.invariant-datagrams
 invariant-datagrams g l =
     let face = g.C.Core.face in

@@ -1,8 +1,8 @@
 use Rattle.std.proofs.Common.{◌≡◌, ◌++◌, ◌∷◌, ◌∙◌, [], length, length-append, append_assoc, sym, ap, arith, rules}
 use Rattle.bar_rules.specs.Members.{member_by}
 use Rattle.bar_peer.specs.Core.{peer_rules, face_of}
-use Rattle.bar_peer.specs.StandsFor.{StandsFor}
-use Rattle.bar_world.specs.Cores.{IsNewCore}
+use Rattle.bar_peer.specs.Code.StandsFor.{StandsFor}
+use Rattle.bar_world.specs.Code.Cores.{IsNewCore}
 use Rattle.bar_world.proofs.Started.{next-at, started-more}
 use Rattle.bar_world.proofs.making.start_peers.Goals as goal
 

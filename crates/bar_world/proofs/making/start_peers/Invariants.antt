@@ -4,11 +4,11 @@ use Rattle.std.specs.Vec.Iter.{into_iter_items}
 use Rattle.bar_roster.specs.declared.key_file.KeyFile.{KeyFile}
 use Rattle.bar_rules.specs.Members.{member_by}
 use Rattle.bar_peer.specs.Core.{peer_rules, face_of}
-use Rattle.bar_peer.specs.StandsFor.{StandsFor}
-use Rattle.bar_world.specs.Cores.{IsNewCore}
+use Rattle.bar_peer.specs.Code.StandsFor.{StandsFor}
+use Rattle.bar_world.specs.Code.Cores.{IsNewCore}
 use Rattle.bar_world.proofs.making.start_peers.Given as goal
 
--- so many peers are started, and the key files of the others are still to come
+-- a peer is started for each key file before the current one, and the other key files are left
 abbrev pub invariant-loop-key : goal.invariant-loop-key
 invariant-loop-key l = record {
   split : l.fn.keys.items ≡ l.yielded ++ into_iter_items l.key-iterator;

@@ -3,7 +3,7 @@ use Rattle.std.proofs.lemmas.List.{take_rest}
 use Rattle.bar_rules.specs.Member.{Session}
 use Rattle.bar_rules.specs.World.World.{IsSetup}
 use Rattle.bar_world.specs.Keys.{held_in}
-use Rattle.bar_world.specs.Setups.{setup_of}
+use Rattle.bar_world.specs.Code.Setups.{setup_of}
 use Rattle.bar_world.proofs.MadeOfHeld.{of-setup, session-is}
 use Rattle.bar_world.proofs.sessions.session.Goals as goal
 

@@ -3,7 +3,7 @@ use Rattle.std.specs.Prelude.{slice_index_or}
 use Rattle.bar_roster.specs.declared.key_file.KeyFile.{KeyFile}
 use Rattle.bar_rules.specs.World.World.{IsSetup}
 use Rattle.bar_world.specs.Keys.{held_in}
-use Rattle.bar_world.specs.Kept.{StandsFor}
+use Rattle.bar_world.specs.Code.Kept.{StandsFor}
 use Rattle.bar_world.proofs.Begins.{liar-is, setup-is, stream-fits}
 use Rattle.bar_world.proofs.SimEnds.{begun-playing}
 use Rattle.bar_world.proofs.simulation.begin.Goals as goal

@@ -1,8 +1,8 @@
 use Rattle.std.proofs.Common.{subst}
 use Rattle.std.specs.Prelude.{Contains}
 use Rattle.bar_world.specs.Network.{begun}
-use Rattle.bar_world.specs.Playing.{IsPlaying}
-use Rattle.bar_world.specs.Shown.{IsEnd}
+use Rattle.bar_world.specs.Code.Playing.{IsPlaying}
+use Rattle.bar_world.specs.Code.Shown.{IsEnd}
 use Rattle.bar_world.specs.Sim.{game}
 use Rattle.bar_world.proofs.SimEnds.{sim-is}
 use Rattle.bar_world.proofs.simulation.simulate.Goals as goal

@@ -1,8 +1,8 @@
 use Rattle.std.proofs.Common.{rules, ◌≡◌, ◌∙◌, ◌||◌, ℕ, sym, ap, eqb, false, Err}
 use Rattle.std.proofs.lemmas.Result.{err_from_is_err_and}
-use Rattle.bar_record.specs.Inputs.{inputs_left}
+use Rattle.bar_record.specs.Code.Inputs.{inputs_left}
 use Rattle.bar_audit.specs.declared.fault.AuditFault.TheVariants.{Twice, NoMemory}
-use Rattle.bar_audit.specs.Findings.{has_number}
+use Rattle.bar_audit.specs.Code.Findings.{has_number}
 use Rattle.bar_audit.proofs.Added.{audits-more, not-twice, nat-tells}
 use Rattle.bar_audit.proofs.Sides.{kept-key}
 use Rattle.bar_audit.proofs.audit.Audit.add.Goals as goal

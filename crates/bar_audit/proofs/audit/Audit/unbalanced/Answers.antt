@@ -1,6 +1,6 @@
 use Rattle.std.proofs.Common.{◌∙◌, sym, ap, not}
 use Rattle.std.specs.Prelude.{find}
-use Rattle.bar_audit.specs.Balance.{is_balanced_by}
+use Rattle.bar_audit.specs.Code.Balance.{is_balanced_by}
 use Rattle.bar_audit.proofs.Lists.{find-past, find-here, find-none}
 use Rattle.bar_audit.proofs.Told.{unbalanced-is}
 use Rattle.bar_audit.proofs.audit.Audit.unbalanced.Goals as goal

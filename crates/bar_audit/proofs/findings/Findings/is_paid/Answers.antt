@@ -2,8 +2,8 @@ use Rattle.std.proofs.Common.{◌≡◌, ◌∙◌, sym, subst, true, Some}
 use Rattle.std.specs.Map.{lookup}
 use Rattle.bar_window.specs.Exchange.{other_role}
 use Rattle.bar_rules.proofs.EqualTerms.{terms-eq}
-use Rattle.bar_audit.specs.Findings.{has_side}
-use Rattle.bar_audit.specs.Sides.{is_side, side_at}
+use Rattle.bar_audit.specs.Code.Findings.{has_side}
+use Rattle.bar_audit.specs.Code.Sides.{is_side, side_at}
 use Rattle.bar_audit.proofs.Balances.{looked-up, windows-of, both-paid}
 use Rattle.bar_audit.proofs.findings.Findings.is_paid.Goals as goal
 

@@ -1,11 +1,11 @@
--- A manifest that was signed is short.
+-- The length of a signed manifest fits two bytes.
 use Rattle.std.proofs.Common.{◌<◌, ◌^◌, List, Option, ℕ, length, sym, subst, arith}
 use Rattle.std.specs.Prelude.{IfSome}
 use Rattle.bar_core.proofs.Mapped.{if-mapped}
 use Rattle.bar_wire.specs.declared.kind.Kind.TheVariants as kinds
 use Rattle.bar_rules.specs.Values.{datagram_bytes}
-use Rattle.bar_caster.specs.Memory.{member_of, said_of, stream_of}
-use Rattle.bar_caster.specs.StandsFor.{log_of}
+use Rattle.bar_caster.specs.Code.Memory.{member_of, said_of, stream_of}
+use Rattle.bar_caster.specs.Code.StandsFor.{log_of}
 use Rattle.bar_caster.proofs.Short.{said_short}
 use Rattle.bar_caster.proofs.as_core.CasterCore.kept_manifests.Goals as goal
 

@@ -5,9 +5,9 @@ use Rattle.std.proofs.lemmas.List.{nil_from_length}
 use Rattle.bar_session.specs.Time.{round_after, slot_after}
 use Rattle.bar_rules.specs.Member.{Session}
 use Rattle.bar_rules.specs.Peer.Log.{Log, Said, ticks}
-use Rattle.bar_caster.specs.Memory.{member_of, stream_of}
-use Rattle.bar_caster.specs.StandsFor.{log_of}
-use Rattle.bar_caster.specs.Ticking.{begun_round, notice_now}
+use Rattle.bar_caster.specs.Code.Memory.{member_of, stream_of}
+use Rattle.bar_caster.specs.Code.StandsFor.{log_of}
+use Rattle.bar_caster.specs.Code.Ticking.{begun_round, notice_now}
 use Rattle.bar_caster.proofs.Ticked.{alone-stands, both-stand, from-none, notice-unsaid, round-begins}
 use Rattle.bar_caster.proofs.caster.Caster.begin_round.Goals as goal
 

@@ -1,8 +1,8 @@
--- The room of a number holds what the log keeps, and the log keeps evidence against the evicted alone.
+-- The room of a number holds the evidence that the log keeps, and the log keeps evidence only against evicted peers.
 use Rattle.std.proofs.Common.{◌∙◌, ap}
 use Rattle.std.specs.Prelude.{option_map}
 use Rattle.bar_wire.specs.Evidence.{evidence_bytes}
-use Rattle.bar_caster.specs.Memory.{member_of, stream_of}
+use Rattle.bar_caster.specs.Code.Memory.{member_of, stream_of}
 use Rattle.bar_caster.proofs.Everyone.{kept_of_all, none_unless_evicted, uncopied}
 use Rattle.bar_caster.proofs.caster.Caster.evidence.Goals as goal
 

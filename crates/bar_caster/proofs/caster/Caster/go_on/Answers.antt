@@ -5,9 +5,9 @@ use Rattle.bar_wire.specs.declared.shape.Shape.{Shape}
 use Rattle.bar_session.specs.Time.{round_after, slot_after}
 use Rattle.bar_rules.specs.Member.{Session}
 use Rattle.bar_rules.specs.Peer.Log.{Log, Ticked}
-use Rattle.bar_caster.specs.Memory.{member_of, stream_of}
-use Rattle.bar_caster.specs.StandsFor.{log_of}
-use Rattle.bar_caster.specs.Ticking.{says_again}
+use Rattle.bar_caster.specs.Code.Memory.{member_of, stream_of}
+use Rattle.bar_caster.specs.Code.StandsFor.{log_of}
+use Rattle.bar_caster.specs.Code.Ticking.{says_again}
 use Rattle.bar_caster.proofs.Ticked.{again-stands, blocks-stand, first-passed, from-none, idle-stands, manifest-stands, past-stands, said-again}
 use Rattle.bar_caster.proofs.Ticked.{said-before, signs-so, stands-so}
 use Rattle.bar_caster.proofs.caster.Caster.go_on.Goals as goal

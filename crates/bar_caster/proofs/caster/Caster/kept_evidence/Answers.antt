@@ -1,8 +1,8 @@
--- The room of a number holds what the log keeps.
+-- The room of a number holds the evidence that the log keeps.
 use Rattle.std.proofs.Common.{◌∙◌, ap}
 use Rattle.bar_bytes.specs.declared.rooms.Rooms.{Rooms}
-use Rattle.bar_bytes.specs.Rooms.{kept_in}
-use Rattle.bar_caster.specs.Memory.{member_of, stream_of}
+use Rattle.bar_bytes.specs.Code.Rooms.{kept_in}
+use Rattle.bar_caster.specs.Code.Memory.{member_of, stream_of}
 use Rattle.bar_caster.proofs.Everyone.{kept_of_all}
 use Rattle.bar_caster.proofs.caster.Caster.kept_evidence.Goals as goal
 

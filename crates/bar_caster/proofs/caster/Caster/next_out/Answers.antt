@@ -1,8 +1,8 @@
 use Rattle.std.proofs.Common.{sym, subst}
-use Rattle.bar_rules.specs.Giving.{GivesNext}
-use Rattle.bar_core.specs.Orders.{left_in}
-use Rattle.bar_caster.specs.Memory.{member_of, stream_of}
-use Rattle.bar_caster.specs.StandsFor.{AreLeft, log_of}
+use Rattle.bar_rules.specs.Code.Giving.{GivesNext}
+use Rattle.bar_core.specs.Code.Orders.{left_in}
+use Rattle.bar_caster.specs.Code.Memory.{member_of, stream_of}
+use Rattle.bar_caster.specs.Code.StandsFor.{AreLeft, log_of}
 use Rattle.bar_caster.proofs.Given.{none_left, next_of, never_none}
 use Rattle.bar_caster.proofs.Short.{sent_short}
 use Rattle.bar_caster.proofs.caster.Caster.next_out.Goals as goal

@@ -1,4 +1,4 @@
--- An input before the last tick is taken; after it nothing changes, and nothing is sent.
+-- Before the last tick an input is taken; afterwards nothing changes, and nothing is sent.
 use Rattle.std.proofs.Common.{◌∙◌, ◌++◌, ◌∷◌, [], refl, sym, ap, subst}
 use Rattle.std.proofs.lemmas.Bool.{false≢true}
 use Rattle.bar_wire.specs.Inputs as event
@@ -8,9 +8,9 @@ use Rattle.bar_rules.specs.Broadcaster.Sending.{caster_step}
 use Rattle.bar_laws.specs.Ignoring.{is_ignored_by_caster, is_unread}
 use Rattle.bar_core.proofs.Left.{all-left, nothing-left}
 use Rattle.bar_caster.specs.declared.memory.Memory.{Memory}
-use Rattle.bar_caster.specs.Ignoring.{IsAsBefore}
-use Rattle.bar_caster.specs.Memory.{member_of, stream_of}
-use Rattle.bar_caster.specs.StandsFor.{StandsFor, AreLeft, log_of}
+use Rattle.bar_caster.specs.Code.Ignoring.{IsAsBefore}
+use Rattle.bar_caster.specs.Code.Memory.{member_of, stream_of}
+use Rattle.bar_caster.specs.Code.StandsFor.{StandsFor, AreLeft, log_of}
 use Rattle.bar_caster.proofs.Stepped.{then_stands, then_sends, then_silent, over_stands, over_silent}
 use Rattle.bar_caster.proofs.caster.Caster.step.Goals as goal
 

@@ -1,4 +1,4 @@
--- The round that begins has its list and its manifest from now on, and nothing of it was said before.
+-- The round that begins gets its list and its manifest, and nothing of it was said before.
 use Rattle.std.proofs.Common.{◌≡◌, ◌∙◌, ℕ, ◌+◌, ◌-◌, ◌*◌, ◌/◌, ◌<◌, ◌∷◌, true, List, None, length, take, is_some, refl, sym, ap, arith}
 use Rattle.std.specs.List.{concat}
 use Rattle.std.proofs.lemmas.Bool.{OnTrue_at}
@@ -9,9 +9,9 @@ use Rattle.bar_rules.specs.Broadcaster.Stream.{manifest_list}
 use Rattle.bar_rules.specs.Peer.Log.{Log, Said, Ticked, round_now, ticks}
 use Rattle.bar_rules.specs.Values.{datagram_bytes}
 use Rattle.bar_laws.specs.Broadcasting.{SignsOnce, manifest_of}
-use Rattle.bar_caster.specs.Memory.{member_of, stream_of}
-use Rattle.bar_caster.specs.StandsFor.{log_of}
-use Rattle.bar_caster.specs.Ticking.{begins_round}
+use Rattle.bar_caster.specs.Code.Memory.{member_of, stream_of}
+use Rattle.bar_caster.specs.Code.StandsFor.{log_of}
+use Rattle.bar_caster.specs.Code.Ticking.{begins_round}
 use Rattle.bar_caster.proofs.Begun.{manifest_back, manifest_few, manifests_begun, notice_begun, signed_bytes, table_joins}
 use Rattle.bar_caster.proofs.Grown.{next_round, no_list_yet, same_evictions}
 use Rattle.bar_caster.proofs.memory.Memory.begin_round.Goals as goal

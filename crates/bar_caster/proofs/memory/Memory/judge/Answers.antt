@@ -1,4 +1,4 @@
--- Evidence evicts the party that it is shown against, once.
+-- Evidence evicts the party whose fault it shows, once.
 use Rattle.std.proofs.Common.{◌∙◌, refl, ap, subst}
 use Rattle.bar_terms.specs.Table.{digests_of}
 use Rattle.bar_rules.specs.Judge.Verdict.{verdict}

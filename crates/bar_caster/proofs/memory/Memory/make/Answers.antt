@@ -1,6 +1,6 @@
--- No list, manifest, notice or eviction is there yet.
+-- There is no list, manifest, notice or eviction yet.
 use Rattle.std.proofs.Common.{◌∙◌, refl, sym, ap}
-use Rattle.bar_terms.specs.Room.{TableWithRoom}
+use Rattle.bar_terms.specs.Code.Room.{TableWithRoom}
 use Rattle.bar_terms.specs.Table.{digests_of}
 use Rattle.bar_rules.specs.Members.{member_by}
 use Rattle.bar_caster.proofs.Started.{no_lists_yet}

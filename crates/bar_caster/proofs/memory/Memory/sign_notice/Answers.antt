@@ -1,11 +1,11 @@
--- The notice of this round names those that are evicted, and is the first of its round.
+-- The notice of this round names the evicted peers, and is the first of its round.
 use Rattle.std.proofs.Common.{◌≡◌, ◌≤◌, ℕ, List, length, ap, arith}
 use Rattle.std.proofs.lemmas.List.{length-take}
 use Rattle.bar_session.proofs.Levels.{session_short}
 use Rattle.bar_caster.specs.declared.memory.Memory.{Memory}
 use Rattle.bar_caster.proofs.memory.Memory.sign_notice.Goals as goal
 
--- the peers are few
+-- at most as many parties as there are peers, which are at most 200
 few : (m : Memory) (parties : List ℕ) → parties ≡ m.evictions.list.items
     → (length parties ≤ m.session.shape.peers) × (m.session.shape.peers ≤ 200)
 few m parties is =

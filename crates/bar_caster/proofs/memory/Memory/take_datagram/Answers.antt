@@ -9,13 +9,13 @@ use Rattle.bar_wire.specs.Datagram.{Datagram, Evidence}
 use Rattle.bar_wire.specs.Evidence.{IsEvidence}
 use Rattle.bar_wire.specs.Places.{entries}
 use Rattle.bar_wire.specs.Places as places
-use Rattle.bar_wire.specs.Views.{datagram, plain}
+use Rattle.bar_wire.specs.Code.Views.{datagram, plain}
 use Rattle.bar_wire.specs.declared.view.Body.{Body as RawBody}
 use Rattle.bar_wire.specs.declared.shape.Shape.{Shape}
 use Rattle.bar_rules.specs.Broadcaster.Sending.{judge_body, judge_datagram}
 use Rattle.bar_rules.specs.Member.{Member}
 use Rattle.bar_rules.specs.Values.{datagram_of}
-use Rattle.bar_caster.specs.Memory.{Represents, member_of, stream_of}
+use Rattle.bar_caster.specs.Code.Memory.{Represents, member_of, stream_of}
 use Rattle.bar_caster.proofs.Judged.{view_behind}
 use Rattle.bar_caster.proofs.memory.Memory.take_datagram.Goals as goal
 

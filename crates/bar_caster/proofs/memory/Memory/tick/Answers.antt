@@ -1,11 +1,11 @@
--- Nothing of a round that begins now was said.
+-- If a round begins now, nothing of it was said before.
 use Rattle.std.proofs.Common.{◌≡◌, ◌∙◌, ◌+◌, false, sym, ap, refl, option_map}
 use Rattle.bar_wire.specs.declared.kind.Kind.TheVariants as kinds
 use Rattle.bar_rules.specs.Peer.Log.{Log, Ticked, has_kind_and_round, ticks}
 use Rattle.bar_rules.specs.Values.{datagram_bytes}
-use Rattle.bar_caster.specs.Memory.{member_of, stream_of}
-use Rattle.bar_caster.specs.StandsFor.{log_of}
-use Rattle.bar_caster.specs.Ticking.{begins_round}
+use Rattle.bar_caster.specs.Code.Memory.{member_of, stream_of}
+use Rattle.bar_caster.specs.Code.StandsFor.{log_of}
+use Rattle.bar_caster.specs.Code.Ticking.{begins_round}
 use Rattle.bar_caster.proofs.Grown.{same_said, same_evictions, table_ticked}
 use Rattle.bar_caster.proofs.Begun.{notice_ticked}
 use Rattle.bar_caster.proofs.memory.Memory.tick.Goals as goal

@@ -1,8 +1,8 @@
--- What was said in this round is kept, as it was signed.
+-- What was said in this round is kept as signed.
 use Rattle.std.proofs.Common.{◌≡◌, ◌<◌, ◌≤◌, ◌∙◌, ℕ, ◌-◌, List, Some, None, length, sym, ap, arith}
 use Rattle.std.specs.Prelude.{option_copied, option_map}
 use Rattle.std.specs.Borrow.{Bor}
-use Rattle.bar_bytes.specs.Rooms.{kept_in}
+use Rattle.bar_bytes.specs.Code.Rooms.{kept_in}
 use Rattle.bar_wire.specs.Datagram.{Datagram}
 use Rattle.bar_wire.specs.Limits.{largest_datagram}
 use Rattle.bar_wire.specs.declared.kind.Kind.TheVariants as kinds
@@ -10,8 +10,8 @@ use Rattle.bar_session.specs.Time.{round_after}
 use Rattle.bar_rules.specs.Member.{Session}
 use Rattle.bar_rules.specs.Peer.Log.{round_now}
 use Rattle.bar_rules.specs.Values.{datagram_bytes}
-use Rattle.bar_caster.specs.Memory.{member_of, said_of, stream_of}
-use Rattle.bar_caster.specs.Orders.{datagram_now}
+use Rattle.bar_caster.specs.Code.Memory.{member_of, said_of, stream_of}
+use Rattle.bar_caster.specs.Code.Orders.{datagram_now}
 use Rattle.bar_caster.proofs.memory.Memory.write.Goals as goal
 use Rattle.bar_caster.proofs.memory.Memory.write.Goals.{in-Manifest+in_ok-bytes-in-Manifest, in-ManifestBefore+in_ok-bytes-in-ManifestBefore, in-Evictions+in_ok-bytes-in-Evictions}
 

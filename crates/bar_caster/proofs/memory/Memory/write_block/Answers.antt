@@ -1,4 +1,4 @@
--- A block isn't signed: its datagram is its message.
+-- A BLOCK isn't signed: its datagram is its message.
 use Rattle.std.proofs.Common.{◌≡◌, ◌<◌, ◌∙◌, ℕ, List, length, sym, ap, subst, arith}
 use Rattle.std.specs.Prelude.{option_map, slice_get}
 use Rattle.std.proofs.lemmas.List.{length-take}
@@ -10,8 +10,8 @@ use Rattle.bar_rules.specs.Broadcaster.Stream.{round_blocks}
 use Rattle.bar_session.specs.Time.{round_after}
 use Rattle.bar_rules.specs.Peer.Log.{round_now}
 use Rattle.bar_rules.specs.Values.{datagram_bytes}
-use Rattle.bar_caster.specs.Memory.{stream_of}
-use Rattle.bar_caster.specs.Orders.{block_to}
+use Rattle.bar_caster.specs.Code.Memory.{stream_of}
+use Rattle.bar_caster.specs.Code.Orders.{block_to}
 use Rattle.bar_caster.proofs.Given.{one_within, unsigned_bytes, block_len}
 use Rattle.bar_caster.proofs.memory.Memory.write_block.Goals as goal
 

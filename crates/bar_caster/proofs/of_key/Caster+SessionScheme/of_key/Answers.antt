@@ -1,4 +1,4 @@
--- What a key signs with is as its session's scheme.
+-- A key signs as its session's scheme does.
 use Rattle.std.proofs.Common.{◌∙◌, sym}
 use Rattle.bar_caster.proofs.of_key.Caster+SessionScheme.of_key.Goals as goal
 

@@ -1,4 +1,4 @@
--- The round has the blocks that are counted.
+-- The number of blocks that is computed is that of the round.
 use Rattle.std.proofs.Common.{◌≡◌, ◌-◌, ◌*◌, length, sym, ap, ◌∙◌}
 use Rattle.std.specs.Prelude.{min}
 use Rattle.std.specs.Int.{div_ceil}

@@ -1,4 +1,4 @@
--- The block of this index has the piece of its number.
+-- The block with this index contains the piece of the stream with its number.
 use Rattle.std.proofs.Common.{◌+◌, ◌-◌, ◌*◌, sym, ap, ◌∙◌}
 use Rattle.std.specs.Prelude.{Some}
 use Rattle.bar_rules.specs.Broadcaster.Stream.{block_bytes, piece_of}

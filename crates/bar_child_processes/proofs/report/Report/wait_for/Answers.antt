@@ -1,5 +1,5 @@
 use Rattle.std.proofs.Common.{rules, SFits, w32, to_z-of_z}
-use Rattle.bar_child_processes.specs.Views.{report_view}
+use Rattle.bar_child_processes.specs.Code.Views.{report_view}
 use Rattle.bar_child_processes.proofs.OneChild.{reports-fault, reports-quiet, reports-shown}
 use Rattle.bar_child_processes.proofs.report.Report.wait_for.Goals as goal
 

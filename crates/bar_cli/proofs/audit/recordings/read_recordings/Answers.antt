@@ -1,8 +1,8 @@
 use Rattle.std.proofs.Common.{◌<◌, ◌≤◌, ◌∙◌, Err, subst, arith}
 use Rattle.std.proofs.lemmas.Result.{err_from_is_err_and}
 use Rattle.bar_outside.specs.Disk.{Reads}
-use Rattle.bar_record.specs.Inputs.{inputs_left}
-use Rattle.bar_cli.specs.Views.{audit_view}
+use Rattle.bar_record.specs.Code.Inputs.{inputs_left}
+use Rattle.bar_cli.specs.Code.Views.{audit_view}
 use Rattle.bar_cli.proofs.AuditLemmas.{count, gathered-all, gathered-late, gathered-memory, gathered-more, gathered-none, gathered-refused, gathered-unread}
 use Rattle.bar_cli.proofs.audit.recordings.read_recordings.Goals as goal
 

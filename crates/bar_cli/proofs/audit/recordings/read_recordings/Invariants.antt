@@ -1,5 +1,5 @@
 use Rattle.bar_outside.specs.Disk.{Content}
-use Rattle.bar_cli.specs.Views.{audit_view}
+use Rattle.bar_cli.specs.Code.Views.{audit_view}
 use Rattle.bar_cli.proofs.AuditLemmas.{Gathered}
 use Rattle.bar_cli.proofs.audit.recordings.read_recordings.Given as goal
 

@@ -4,8 +4,8 @@ use Rattle.bar_window.specs.declared.exchange.XKind.{XKind}
 use Rattle.bar_window.specs.declared.exchange.XKind.TheVariants.{Balanced, Push}
 use Rattle.bar_window.specs.declared.exchange.Exchange.{Exchange}
 use Rattle.bar_rules.specs.Peer.Evidence.{between}
-use Rattle.bar_ledger.specs.Naming.{names}
-use Rattle.bar_exchange.specs.Naming.{passing_among}
+use Rattle.bar_ledger.specs.Code.Naming.{names}
+use Rattle.bar_exchange.specs.Code.Naming.{passing_among}
 use Rattle.bar_exchange.proofs.Passing.{passing_both}
 use Rattle.bar_exchange.proofs.naming.Search.of_round.Goals as goal
 

@@ -4,12 +4,12 @@ use Rattle.bar_window.specs.declared.exchange.Exchange.{Exchange}
 use Rattle.bar_window.specs.declared.exchange.XKind.TheVariants.{Balanced, Push}
 use Rattle.bar_rules.specs.Peer.Evidence.{between, shared_from}
 use Rattle.bar_ledger.specs.declared.ledger.Ledger.{Ledger}
-use Rattle.bar_ledger.specs.Naming.{names}
-use Rattle.bar_exchange.specs.Naming.{passing_among}
+use Rattle.bar_ledger.specs.Code.Naming.{names}
+use Rattle.bar_exchange.specs.Code.Naming.{passing_among}
 use Rattle.bar_exchange.proofs.Passing.{passing_round}
 use Rattle.bar_exchange.proofs.naming.Search.of_rounds.Goals as goal
 
--- the rounds that are left begin with this one
+-- the rounds that are left start with the current one
 left : (test : List ℕ → Bool) (l : Ledger) (x : Exchange) (q first count after round : ℕ) → after < count → round ≡ first + after
     → passing_among test l x (shared_from l.me q (first + after) (count - after))
     ≡ option_or (passing_among test l x (between l.me q round Balanced ++ between l.me q round Push))

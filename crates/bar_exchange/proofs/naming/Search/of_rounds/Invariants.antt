@@ -1,7 +1,7 @@
 use Rattle.std.proofs.Common.{◌≡◌, ◌+◌, ◌-◌}
 use Rattle.bar_rules.specs.Peer.Evidence.{shared_from}
-use Rattle.bar_ledger.specs.Naming.{names}
-use Rattle.bar_exchange.specs.Naming.{passing_among}
+use Rattle.bar_ledger.specs.Code.Naming.{names}
+use Rattle.bar_exchange.specs.Code.Naming.{passing_among}
 use Rattle.bar_exchange.proofs.naming.Search.of_rounds.Given as goal
 
 abbrev pub invariant-loop-after : goal.invariant-loop-after

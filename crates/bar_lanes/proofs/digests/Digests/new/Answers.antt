@@ -1,5 +1,5 @@
 use Rattle.std.proofs.Common.{[], slice_index_or, ◌∙◌}
-use Rattle.bar_lanes.specs.Lane.{digest_lane}
+use Rattle.bar_lanes.specs.Code.Lane.{digest_lane}
 use Rattle.bar_lanes.proofs.TailLemmas.{digest_of_bytes, of_lanes_at}
 use Rattle.bar_lanes.proofs.digests.Digests.new.Goals as goal
 

@@ -1,5 +1,5 @@
 use Rattle.std.proofs.Common.{◌==◌, slice_index, ◌∙◌}
-use Rattle.bar_lanes.specs.Lane.{digest_lane}
+use Rattle.bar_lanes.specs.Code.Lane.{digest_lane}
 use Rattle.bar_lanes.proofs.TailLemmas.{digest_chosen, of_lanes_at, seen_lane}
 use Rattle.bar_lanes.proofs.digests.Digests.take.Goals as goal
 

@@ -1,6 +1,6 @@
 use Rattle.std.proofs.Common.{ap, sym, ◌∙◌, arith}
 use Rattle.sha2.specs.Sha256.{digest_bytes}
-use Rattle.bar_lanes.specs.Lane.{digest_lane, hash_lane}
+use Rattle.bar_lanes.specs.Code.Lane.{digest_lane, hash_lane}
 use Rattle.bar_lanes.proofs.TailLemmas.{seen_lane}
 use Rattle.bar_lanes.proofs.digests.Digests.to_bytes.Goals as goal
 

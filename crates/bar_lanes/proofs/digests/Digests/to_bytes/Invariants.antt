@@ -1,6 +1,6 @@
 use Rattle.std.proofs.Common.{◌≡◌, ℕ, ◌<◌, length, [], slice_index_or}
 use Rattle.sha2.specs.Sha256.{digest_bytes}
-use Rattle.bar_lanes.specs.Lane.{hash_lane}
+use Rattle.bar_lanes.specs.Code.Lane.{hash_lane}
 use Rattle.bar_lanes.proofs.digests.Digests.to_bytes.Given as goal
 
 abbrev pub invariant-write : goal.invariant-write

@@ -1,6 +1,6 @@
 use Rattle.std.proofs.Common.{◌≡◌, ◌++◌, [], ap, ◌∙◌, take, length, length-append, slice_index_or, arith}
 use Rattle.sha2.specs.Sha256.{compress, initial_hash_256, padded_message}
-use Rattle.bar_lanes.specs.Lane.{digest_lane, hash_lane, head_lane, state_lane}
+use Rattle.bar_lanes.specs.Code.Lane.{digest_lane, hash_lane, head_lane, state_lane}
 use Rattle.bar_lanes.proofs.HeadLemmas.{head_length}
 use Rattle.bar_lanes.proofs.LaneLemmas.{sha256_block}
 use Rattle.bar_lanes.proofs.TailLemmas.{begun_alike, of_lanes_at, seen_lane}

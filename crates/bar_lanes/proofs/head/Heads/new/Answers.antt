@@ -1,5 +1,5 @@
 use Rattle.std.proofs.Common.{ap, ◌∙◌}
-use Rattle.bar_lanes.specs.Lane.{hash_lane}
+use Rattle.bar_lanes.specs.Code.Lane.{hash_lane}
 use Rattle.bar_lanes.proofs.HeadLemmas.{begins_alike}
 use Rattle.bar_lanes.proofs.head.Heads.new.Goals as goal
 

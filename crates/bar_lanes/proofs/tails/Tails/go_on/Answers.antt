@@ -1,5 +1,5 @@
 use Rattle.std.proofs.Common.{nat_lt, slice_index, ◌∙◌}
-use Rattle.bar_lanes.specs.Lane.{digest_lane, tail_lane}
+use Rattle.bar_lanes.specs.Code.Lane.{digest_lane, tail_lane}
 use Rattle.bar_lanes.proofs.TailLemmas.{of_lanes_at, seen_lane, tail_gone_on}
 use Rattle.bar_lanes.proofs.tails.Tails.go_on.Goals as goal
 

@@ -1,6 +1,6 @@
 use Rattle.std.proofs.Common.{◌≡◌, ℕ, ◌%◌, ◌++◌, [], ◌∷◌, List, slice_index, slice_index_or, take, ◌∙◌}
 use Rattle.std.specs.Int.{w32, to_be_bytes}
-use Rattle.bar_lanes.specs.Lane.{digest_lane, tail_lane}
+use Rattle.bar_lanes.specs.Code.Lane.{digest_lane, tail_lane}
 use Rattle.bar_lanes.proofs.LaneLemmas.{below_eight}
 use Rattle.bar_lanes.proofs.TailLemmas.{of_lanes_at, seen_lane}
 use Rattle.bar_lanes.proofs.tails.Tails.new.Goals as goal

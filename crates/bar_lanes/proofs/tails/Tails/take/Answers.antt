@@ -1,5 +1,5 @@
 use Rattle.std.proofs.Common.{◌==◌, slice_index, ◌∙◌}
-use Rattle.bar_lanes.specs.Lane.{tail_lane}
+use Rattle.bar_lanes.specs.Code.Lane.{tail_lane}
 use Rattle.bar_lanes.proofs.TailLemmas.{of_lanes_at, seen_lane, tail_chosen}
 use Rattle.bar_lanes.proofs.tails.Tails.take.Goals as goal
 

@@ -1,5 +1,5 @@
 use Rattle.std.proofs.Common.{drop, ap, sym, ◌∙◌}
-use Rattle.bar_lanes.specs.Lane.{digest_lane, tail_lane}
+use Rattle.bar_lanes.specs.Code.Lane.{digest_lane, tail_lane}
 use Rattle.bar_lanes.proofs.TailLemmas.{of_lanes_at, seen_lane}
 use Rattle.bar_lanes.proofs.tails.Tails.values.Goals as goal
 

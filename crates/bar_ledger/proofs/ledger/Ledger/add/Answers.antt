@@ -1,7 +1,7 @@
 use Rattle.std.proofs.Common.{◌∙◌}
 use Rattle.std.proofs.lemmas.List.{length-set}
 use Rattle.bar_ledger.proofs.Changes.{IsGiven, given-found, given-count, given-distinct, rooms-set}
-use Rattle.bar_ledger.specs.Asking.{is_asked}
+use Rattle.bar_ledger.specs.Code.Asking.{is_asked}
 use Rattle.bar_ledger.proofs.Counts.{given-counted, given-opens}
 use Rattle.bar_ledger.proofs.ledger.Ledger.add.Goals as goal
 

@@ -1,5 +1,5 @@
 use Rattle.std.proofs.Common.{◌<◌, true, false, length, sym, ◌∙◌, refl, arith}
-use Rattle.bar_ledger.specs.Asking.{is_asked}
+use Rattle.bar_ledger.specs.Code.Asking.{is_asked}
 use Rattle.bar_ledger.proofs.Loops.{count-more}
 use Rattle.bar_ledger.proofs.Slots.{entries-none}
 use Rattle.bar_ledger.proofs.ledger.Ledger.asked.Goals as goal

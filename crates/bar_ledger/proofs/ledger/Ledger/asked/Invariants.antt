@@ -1,6 +1,6 @@
 use Rattle.std.proofs.Common.{◌≡◌, ◌≤◌, take, count_by}
-use Rattle.bar_ledger.specs.Asking.{is_asked}
-use Rattle.bar_ledger.specs.Slots.{entries_of}
+use Rattle.bar_ledger.specs.Code.Asking.{is_asked}
+use Rattle.bar_ledger.specs.Code.Slots.{entries_of}
 use Rattle.bar_ledger.proofs.ledger.Ledger.asked.Given as goal
 
 abbrev pub invariant-loop-place : goal.invariant-loop-place

@@ -1,8 +1,8 @@
 use Rattle.std.proofs.Common.{refl, ap, ◌∙◌}
 use Rattle.std.specs.List.{find}
-use Rattle.bar_ledger.specs.Kept.{is_for, is_recent}
-use Rattle.bar_ledger.specs.Memory.{entries_in}
-use Rattle.bar_ledger.specs.Slots.{exchanges_of}
+use Rattle.bar_ledger.specs.Code.Kept.{is_for, is_recent}
+use Rattle.bar_ledger.specs.Code.Memory.{entries_in}
+use Rattle.bar_ledger.specs.Code.Slots.{exchanges_of}
 use Rattle.bar_ledger.proofs.Giving.{entries-later, found-passing, exchanges-passing, later-distinct}
 use Rattle.bar_ledger.proofs.Recent.{keeps-recent}
 use Rattle.bar_ledger.proofs.Recalled.{gives_up}

@@ -1,5 +1,5 @@
 use Rattle.std.proofs.Common.{◌≡◌, length, take}
-use Rattle.bar_ledger.specs.Slots.{entries_of}
+use Rattle.bar_ledger.specs.Code.Slots.{entries_of}
 use Rattle.bar_ledger.proofs.ledger.Ledger.free.Given as goal
 
 abbrev pub invariant-loop-place : goal.invariant-loop-place

@@ -1,5 +1,5 @@
 use Rattle.std.proofs.Common.{◌∙◌, ◌<◌, ◌||◌, length, sym, refl, arith}
-use Rattle.bar_ledger.specs.Debts.{is_owed}
+use Rattle.bar_ledger.specs.Code.Debts.{is_owed}
 use Rattle.bar_ledger.proofs.Loops.{any-more}
 use Rattle.bar_ledger.proofs.Slots.{entries-none}
 use Rattle.bar_ledger.proofs.ledger.Ledger.has_debt.Goals as goal

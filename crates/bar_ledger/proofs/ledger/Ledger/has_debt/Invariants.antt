@@ -1,7 +1,7 @@
 use Rattle.std.proofs.Common.{◌≡◌, take}
 use Rattle.std.specs.List.{list_any}
-use Rattle.bar_ledger.specs.Debts.{is_owed}
-use Rattle.bar_ledger.specs.Slots.{entries_of}
+use Rattle.bar_ledger.specs.Code.Debts.{is_owed}
+use Rattle.bar_ledger.specs.Code.Slots.{entries_of}
 use Rattle.bar_ledger.proofs.ledger.Ledger.has_debt.Given as goal
 
 abbrev pub invariant-loop-place : goal.invariant-loop-place

@@ -5,11 +5,11 @@ use Rattle.std.proofs.lemmas.Bool.{false≢true}
 use Rattle.bar_bytes.proofs.Options.{some-copied}
 use Rattle.bar_ledger.specs.declared.entry.Entry.{Entry}
 use Rattle.bar_ledger.specs.declared.slot.Slot.{Slot}
-use Rattle.bar_ledger.specs.Kept.{kept_of, with_rooms}
-use Rattle.bar_ledger.specs.Memory.{find_in}
+use Rattle.bar_ledger.specs.Code.Kept.{kept_of, with_rooms}
+use Rattle.bar_ledger.specs.Code.Memory.{find_in}
 use Rattle.bar_ledger.proofs.ledger.Ledger.has_heard_first.Goals as goal
 
--- what is kept of an exchange has the first datagram of its slot
+-- the kept state of an exchange contains the first datagram of its slot
 first_kept : (s : Slot) (e : Option Entry) → s.entry ≡ e → is_some (kept_of s) ≡ true
     → is_some s.first.kept ≡ option_map_or (λ kept. is_some kept.first) (kept_of s) false
 first_kept s (Some e) at some = sym (ap (λ o. option_map_or (λ kept. is_some kept.first) (option_map (with_rooms s) o) false) at)

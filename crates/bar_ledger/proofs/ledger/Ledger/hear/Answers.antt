@@ -1,6 +1,6 @@
 use Rattle.std.proofs.Common.{◌∙◌}
 use Rattle.std.proofs.lemmas.List.{length-set}
-use Rattle.bar_ledger.specs.Kept.{with_bytes}
+use Rattle.bar_ledger.specs.Code.Kept.{with_bytes}
 use Rattle.bar_ledger.proofs.Changes.{bytes-entry, IsChange, bytes-named, change-found, change-kept, change-distinct, rooms-set}
 use Rattle.bar_ledger.proofs.Counts.{change-asked, change-opens}
 use Rattle.bar_ledger.proofs.ledger.Ledger.hear.Goals as goal

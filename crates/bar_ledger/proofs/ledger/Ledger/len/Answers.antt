@@ -1,9 +1,9 @@
 use Rattle.std.proofs.Common.{◌≡◌, ◌<◌, ◌≤◌, true, false, length, sym, ap, ◌∙◌, refl, arith}
 use Rattle.std.proofs.lemmas.List.{take_all}
-use Rattle.bar_ledger.specs.Memory.{entries_in}
+use Rattle.bar_ledger.specs.Code.Memory.{entries_in}
 use Rattle.bar_ledger.proofs.Distinct.{among-found, each-found}
 use Rattle.bar_ledger.proofs.Loops.{length-more}
-use Rattle.bar_ledger.specs.Slots.{entries_of}
+use Rattle.bar_ledger.specs.Code.Slots.{entries_of}
 use Rattle.bar_ledger.proofs.Rising.{opens-few}
 use Rattle.bar_ledger.proofs.Slots.{entries-none}
 use Rattle.bar_ledger.proofs.ledger.Ledger.len.Goals as goal

@@ -1,5 +1,5 @@
 use Rattle.std.proofs.Common.{◌∙◌, ◌<◌, ◌||◌, length, sym, refl, arith}
-use Rattle.bar_ledger.specs.Naming.{shares_leaf}
+use Rattle.bar_ledger.specs.Code.Naming.{shares_leaf}
 use Rattle.bar_ledger.proofs.Loops.{any-more}
 use Rattle.bar_ledger.proofs.Slots.{entries-none}
 use Rattle.bar_ledger.proofs.ledger.Ledger.names_leaf.Goals as goal

@@ -1,7 +1,7 @@
 use Rattle.std.proofs.Common.{◌≡◌, take}
-use Rattle.bar_ledger.specs.Asking.{opens_of}
-use Rattle.bar_ledger.specs.Order.{first_above}
-use Rattle.bar_ledger.specs.Slots.{entries_of}
+use Rattle.bar_ledger.specs.Code.Asking.{opens_of}
+use Rattle.bar_ledger.specs.Code.Order.{first_above}
+use Rattle.bar_ledger.specs.Code.Slots.{entries_of}
 use Rattle.bar_ledger.proofs.ledger.Ledger.next_open.Given as goal
 
 abbrev pub invariant-loop-place : goal.invariant-loop-place

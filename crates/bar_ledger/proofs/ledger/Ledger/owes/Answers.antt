@@ -1,7 +1,7 @@
 use Rattle.std.proofs.Common.{◌∙◌, ◌&&◌, sym, ap}
 use Rattle.std.specs.List.{list_any}
-use Rattle.bar_ledger.specs.Debts.{is_owed, owes_by}
-use Rattle.bar_ledger.specs.Memory.{entries_in}
+use Rattle.bar_ledger.specs.Code.Debts.{is_owed, owes_by}
+use Rattle.bar_ledger.specs.Code.Memory.{entries_in}
 use Rattle.bar_ledger.proofs.Owed.{owes-known}
 use Rattle.bar_ledger.proofs.ledger.Ledger.owes.Goals as goal
 

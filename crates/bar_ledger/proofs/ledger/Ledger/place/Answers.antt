@@ -1,6 +1,6 @@
 use Rattle.std.proofs.Common.{◌∙◌, subst, sym, arith}
-use Rattle.bar_ledger.specs.Memory.{all_in}
-use Rattle.bar_ledger.specs.Order.{IsFirstAbove}
+use Rattle.bar_ledger.specs.Code.Memory.{all_in}
+use Rattle.bar_ledger.specs.Code.Order.{IsFirstAbove}
 use Rattle.bar_ledger.proofs.Rising.{start-all, step-number, end-of-walk, number-found}
 use Rattle.bar_ledger.proofs.ledger.Ledger.place.Goals as goal
 

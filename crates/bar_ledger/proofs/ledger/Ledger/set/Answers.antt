@@ -1,6 +1,6 @@
 use Rattle.std.proofs.Common.{◌∙◌, refl}
 use Rattle.std.proofs.lemmas.List.{length-set}
-use Rattle.bar_ledger.specs.Kept.{with_new}
+use Rattle.bar_ledger.specs.Code.Kept.{with_new}
 use Rattle.bar_ledger.proofs.Changes.{IsChange, change-found, change-kept, change-distinct, rooms-set}
 use Rattle.bar_ledger.proofs.Counts.{put-asked, put-opens, same-asked, same-opens}
 use Rattle.bar_ledger.proofs.ledger.Ledger.set.Goals as goal

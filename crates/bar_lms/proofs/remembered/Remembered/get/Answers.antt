@@ -1,6 +1,6 @@
 use Rattle.std.proofs.Common.{rules, ◌<◌, length}
 use Rattle.std.proofs.lemmas.Option.{IfSome_then}
-use Rattle.bar_lms.specs.Remembered.{AreValuesOf}
+use Rattle.bar_lms.specs.Code.Remembered.{AreValuesOf}
 use Rattle.bar_lms.proofs.RememberedLemmas.{values_at}
 use Rattle.bar_lms.proofs.remembered.Remembered.get.Goals as goal
 

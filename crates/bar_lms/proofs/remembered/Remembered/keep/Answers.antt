@@ -1,7 +1,7 @@
 use Rattle.std.proofs.Common.{rules, ◌≡◌, ◌<◌, ◌∙◌, length, arith, sym}
 use Rattle.std.proofs.lemmas.Option.{same_Some}
 use Rattle.std.proofs.lemmas.List.Elements.{All-set}
-use Rattle.bar_lms.specs.Remembered.{AreValuesOf}
+use Rattle.bar_lms.specs.Code.Remembered.{AreValuesOf}
 use Rattle.bar_lms.proofs.RememberedLemmas.{length-chain_values, values_at}
 use Rattle.bar_lms.proofs.remembered.Remembered.keep.Goals as goal
 

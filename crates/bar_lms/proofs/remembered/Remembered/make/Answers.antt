@@ -1,5 +1,5 @@
 use Rattle.std.proofs.lemmas.List.Elements.{All-push}
-use Rattle.bar_lms.specs.Remembered.{AreValuesOf}
+use Rattle.bar_lms.specs.Code.Remembered.{AreValuesOf}
 use Rattle.bar_lms.proofs.RememberedLemmas.{none_kept}
 use Rattle.bar_lms.proofs.remembered.Remembered.make.Goals as goal
 

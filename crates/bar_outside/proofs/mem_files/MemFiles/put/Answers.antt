@@ -1,6 +1,6 @@
 use Rattle.std.proofs.Common.{◌≡◌, ◌∙◌, ap, rules}
 use Rattle.bar_outside.specs.Disk.{Disk, put_at}
-use Rattle.bar_outside.specs.MemFiles.{content_of, created_in, disk_of}
+use Rattle.bar_outside.specs.Code.MemFiles.{content_of, created_in, disk_of}
 use Rattle.bar_outside.proofs.Contents.{content_of-put, created_in-kept}
 use Rattle.bar_outside.proofs.mem_files.MemFiles.put.Goals as goal
 

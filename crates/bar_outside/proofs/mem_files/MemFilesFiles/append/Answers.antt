@@ -1,7 +1,7 @@
 use Rattle.std.proofs.Common.{rules, arith, ◌≡◌, ◌==◌, ◌∙◌, ◌∷◌, [], ℕ, Bool, List, length, ap, sym, true, Ok, Err, Result, OnErr}
 use Rattle.std.specs.List.{list_any}
 use Rattle.std.proofs.lemmas.Bool.{eqb-true}
-use Rattle.bar_outside.specs.MemFiles.{content_of, created_in}
+use Rattle.bar_outside.specs.Code.MemFiles.{content_of, created_in}
 use Rattle.bar_outside.proofs.Contents.{appended-nothing, front-added, none-added}
 use Rattle.bar_outside.proofs.mem_files.MemFilesFiles.append.Goals as goal
 
@@ -9,7 +9,7 @@ on-err : {T E : Type 0} (P : Type 0) (r : Result T E) → P → OnErr r P
 on-err P (Ok x) h = tt
 on-err P (Err e) h = h
 
--- no call of those that are to fail is next where there are none
+-- if no call is to fail, the next one isn't either
 none-next : (numbers : List ℕ) (p : ℕ → Bool) → (length numbers == 0) ≡ true → list_any p numbers ≡ true → ⊥
 none-next [] p none next = cc
 none-next (x ∷ xs) p none next = let h : length (x ∷ xs) ≡ 0 = eqb-true (length (x ∷ xs)) 0 none in omega (arith, h)

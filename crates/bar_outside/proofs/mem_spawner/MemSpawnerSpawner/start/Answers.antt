@@ -1,7 +1,7 @@
 use Rattle.std.proofs.Common.{rules, ◌≡◌, ◌≤◌, ◌∙◌, ◌+◌, vec_len, vec_capacity, ◌++◌, ◌∷◌, [], map, string_bytes, ap, arith}
 use Rattle.std.proofs.lemmas.List.{map-append}
-use Rattle.bar_outside.specs.Children.{Started}
-use Rattle.bar_outside.specs.MemCalls.{call_in}
+use Rattle.bar_outside.specs.Code.Children.{Started}
+use Rattle.bar_outside.specs.Code.MemCalls.{call_in}
 use Rattle.bar_outside.specs.declared.mem_call.MemCall.TheVariants as raw
 use Rattle.bar_outside.proofs.OpenLemmas.{below-call, next-new, open-few}
 use Rattle.bar_outside.proofs.mem_spawner.MemSpawnerSpawner.start.Goals as goal

@@ -1,7 +1,7 @@
 use Rattle.std.proofs.Common.{rules, ◌≡◌, ◌≤◌, ◌∙◌, vec_len, vec_capacity, ◌++◌, ◌∷◌, [], map, ap, arith, None}
 use Rattle.std.proofs.lemmas.List.{map-append}
-use Rattle.bar_outside.specs.Children.{Waited}
-use Rattle.bar_outside.specs.MemCalls.{call_in}
+use Rattle.bar_outside.specs.Code.Children.{Waited}
+use Rattle.bar_outside.specs.Code.MemCalls.{call_in}
 use Rattle.bar_outside.specs.declared.mem_call.MemCall.TheVariants as raw
 use Rattle.bar_outside.proofs.OpenLemmas.{below-call, open-waited, started-below}
 use Rattle.bar_outside.proofs.mem_spawner.MemSpawnerSpawner.wait.Goals as goal

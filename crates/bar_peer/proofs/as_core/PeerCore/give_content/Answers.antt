@@ -1,8 +1,8 @@
--- The content that is played next fits the buffer.
+-- The next content fits the buffer.
 use Rattle.std.proofs.Common.{List, ℕ, ap, subst}
 use Rattle.std.specs.Prelude.{Option, option_copied}
-use Rattle.bar_peer.specs.Playing.{PlaysFirst}
-use Rattle.bar_peer.specs.StandsFor.{contents_left}
+use Rattle.bar_peer.specs.Code.Playing.{PlaysFirst}
+use Rattle.bar_peer.specs.Code.StandsFor.{contents_left}
 use Rattle.bar_peer.proofs.Giving.Lengths.{content-given}
 use Rattle.bar_peer.proofs.as_core.PeerCore.give_content.Goals as goal
 

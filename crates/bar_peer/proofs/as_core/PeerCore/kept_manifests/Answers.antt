@@ -1,11 +1,11 @@
--- A manifest that was admitted is short.
+-- The length of an admitted manifest fits two bytes.
 use Rattle.std.proofs.Common.{◌<◌, ◌^◌, ℕ, [], List, Option, length, sym, subst}
 use Rattle.std.specs.Prelude.{IfSome}
 use Rattle.bar_core.proofs.Mapped.{if-mapped}
 use Rattle.bar_rules.specs.Peer.Log.{manifest}
 use Rattle.bar_rules.specs.Peer.Run.{log_after}
 use Rattle.bar_rules.specs.Values.{datagram_bytes}
-use Rattle.bar_peer.specs.Memory.{member_of}
+use Rattle.bar_peer.specs.Code.Memory.{member_of}
 use Rattle.bar_peer.proofs.Giving.Lengths.{manifest-short}
 use Rattle.bar_peer.proofs.as_core.PeerCore.kept_manifests.Goals as goal
 

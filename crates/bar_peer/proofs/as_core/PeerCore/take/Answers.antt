@@ -1,10 +1,10 @@
--- What is sent are the bytes of what the rules send, for the same member.
+-- The sent bytes are those of the datagrams that the rules send, for the same member.
 use Rattle.std.proofs.Common.{[], map, sym, ap}
 use Rattle.bar_rules.specs.Peer.Run.{log_after, step}
 use Rattle.bar_rules.specs.Values.{datagram_bytes}
 use Rattle.bar_wire.specs.Inputs.{plain_input}
 use Rattle.bar_peer.specs.Core.{peer_rules}
-use Rattle.bar_peer.specs.Memory.{member_of}
+use Rattle.bar_peer.specs.Code.Memory.{member_of}
 use Rattle.bar_peer.specs.declared.credentials.Credentials.{Credentials}
 use Rattle.bar_peer.proofs.as_core.PeerCore.take.Goals as goal
 

@@ -7,7 +7,7 @@ use Rattle.bar_bytes.specs.Bytes.{first_u16}
 use Rattle.bar_wire.specs.Places.{pairs}
 use Rattle.bar_peer.proofs.evictions.Evictions.add.Goals as goal
 
--- the numbers of the chunks of two bytes
+-- the chunks of two bytes, as numbers, are the pairs
 chunks_are_pairs : (n : ℕ) (bytes : List ℕ) → n ≡ length bytes / 2 → map first_u16 (first_chunks 2 n bytes) ≡ pairs bytes
 chunks_are_pairs zero [] e = refl
 chunks_are_pairs zero (high ∷ []) e = refl

@@ -1,10 +1,10 @@
 use Rattle.std.proofs.Common.{◌≡◌, ◌||◌, ◌==◌, ◌&&◌, ℕ, nat_lt, length, take, map}
 use Rattle.std.specs.List.{list_any}
 use Rattle.bar_bytes.specs.Bytes.{first_u16}
-use Rattle.bar_peer.specs.Evictions.{is_named}
+use Rattle.bar_peer.specs.Code.Evictions.{is_named}
 use Rattle.bar_peer.proofs.evictions.Evictions.add.Given as goal
 
--- the parties of the pairs so far are marked
+-- the parties of the pairs before the current one are marked
 abbrev pub invariant-loop-pair : goal.invariant-loop-pair
 invariant-loop-pair l = record {
   rounds : l.self.rounds ≡ l.initial.self.rounds;

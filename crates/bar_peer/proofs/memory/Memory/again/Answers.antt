@@ -4,8 +4,8 @@ use Rattle.bar_rules.specs.Member.{Member}
 use Rattle.bar_rules.specs.Peer.Exchanges.{partner_in}
 use Rattle.bar_rules.specs.Peer.Replies.{orders_when}
 use Rattle.bar_rules.specs.Peer.Ticks.{again}
-use Rattle.bar_peer.specs.Evictions.{is_named}
-use Rattle.bar_peer.specs.Memory.{member_of}
+use Rattle.bar_peer.specs.Code.Evictions.{is_named}
+use Rattle.bar_peer.specs.Code.Memory.{member_of}
 use Rattle.bar_peer.proofs.memory.Memory.again.Goals as goal
 
 pub returns : goal.returns

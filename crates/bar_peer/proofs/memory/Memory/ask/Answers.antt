@@ -5,8 +5,8 @@ use Rattle.bar_rules.specs.Secrets.{secrets_of, seed_of}
 use Rattle.bar_rules.specs.Peer.Exchanges.{request_kind}
 use Rattle.bar_rules.specs.Peer.Knowledge.{known}
 use Rattle.bar_rules.specs.Peer.Orders.{ask_body}
-use Rattle.bar_exchange.specs.Keeping.{IsSaidNow}
-use Rattle.bar_peer.specs.Memory.{member_of}
+use Rattle.bar_exchange.specs.Code.Keeping.{IsSaidNow}
+use Rattle.bar_peer.specs.Code.Memory.{member_of}
 use Rattle.bar_peer.proofs.Ticking.Asking.{asked_again, gives_request, may_ask_again}
 use Rattle.bar_peer.proofs.memory.Memory.ask.Goals as goal
 

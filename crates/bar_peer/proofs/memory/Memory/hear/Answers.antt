@@ -1,17 +1,17 @@
 use Rattle.std.proofs.Common.{◌≡◌, ◌∙◌, true, sym, ap, subst}
 use Rattle.std.proofs.lemmas.Bool.{and_parts}
 use Rattle.bar_wire.specs.Datagram.{Datagram, kind_of}
-use Rattle.bar_wire.specs.Views.{datagram, plain}
+use Rattle.bar_wire.specs.Code.Views.{datagram, plain}
 use Rattle.bar_rules.specs.Member.{Member}
 use Rattle.bar_rules.specs.Peer.Knowledge.{Knowledge, known, with_heard}
 use Rattle.bar_laws.specs.Soundness.{IsSound}
-use Rattle.bar_ledger.specs.Recalls.{Recalls}
-use Rattle.bar_store.specs.Holds.{Holds}
-use Rattle.bar_exchange.specs.Keeping.{IsAdmittedNow}
+use Rattle.bar_ledger.specs.Code.Recalls.{Recalls}
+use Rattle.bar_store.specs.Code.Holds.{Holds}
+use Rattle.bar_exchange.specs.Code.Keeping.{IsAdmittedNow}
 use Rattle.bar_peer.specs.declared.credentials.Credentials.{Credentials}
-use Rattle.bar_peer.specs.Hearing.{RecallsHeard}
-use Rattle.bar_peer.specs.Memory.{member_of}
-use Rattle.bar_peer.specs.Repeats.{is_of_exchange}
+use Rattle.bar_peer.specs.Code.Hearing.{RecallsHeard}
+use Rattle.bar_peer.specs.Code.Memory.{member_of}
+use Rattle.bar_peer.specs.Code.Repeats.{is_of_exchange}
 use Rattle.bar_peer.proofs.Hearing.Held.{heard_tells, admitted_now, leaves_room, same_blocks, exchange_holds, exchange_memory}
 use Rattle.bar_peer.proofs.Hearing.Keys.{admitted_row}
 use Rattle.bar_peer.proofs.Admitting.Rows.{of_others}

@@ -1,13 +1,13 @@
 use Rattle.std.proofs.Common.{◌≡◌, ◌≤◌, ◌+◌, ◌∙◌, true, sym, ap, subst, arith}
 use Rattle.bar_window.specs.declared.update.UpdateId.{UpdateId}
 use Rattle.bar_wire.specs.Datagram.{Datagram, Body, Block}
-use Rattle.bar_wire.specs.Views.{datagram, plain}
+use Rattle.bar_wire.specs.Code.Views.{datagram, plain}
 use Rattle.bar_session.specs.Time.{round_after}
 use Rattle.bar_rules.specs.Member.{Member}
 use Rattle.bar_rules.specs.Peer.Admission.{is_row_met}
 use Rattle.bar_rules.specs.Peer.Knowledge.{this_round, learned}
-use Rattle.bar_store.specs.Holds.{Holds}
-use Rattle.bar_peer.specs.Memory.{member_of}
+use Rattle.bar_store.specs.Code.Holds.{Holds}
+use Rattle.bar_peer.specs.Code.Memory.{member_of}
 use Rattle.bar_peer.proofs.Hearing.Keys.{admitted_row}
 use Rattle.bar_peer.proofs.Hearing.FromBroadcaster.{by_body, same_recalled, block_near}
 use Rattle.bar_peer.proofs.memory.Memory.hear_block.Goals as goal

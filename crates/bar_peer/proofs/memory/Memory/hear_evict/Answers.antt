@@ -2,9 +2,9 @@ use Rattle.std.proofs.Common.{◌≡◌, ◌∙◌, ◌||◌, sym, ap, subst}
 use Rattle.bar_wire.specs.Datagram.{Datagram, Body, Evict}
 use Rattle.bar_wire.specs.Grammar.{InRange}
 use Rattle.bar_wire.specs.Places.{pairs}
-use Rattle.bar_wire.specs.Views.{datagram, plain}
+use Rattle.bar_wire.specs.Code.Views.{datagram, plain}
 use Rattle.bar_rules.specs.Member.{Member}
-use Rattle.bar_peer.specs.Memory.{member_of}
+use Rattle.bar_peer.specs.Code.Memory.{member_of}
 use Rattle.bar_peer.proofs.Hearing.FromBroadcaster.{by_body, same_recalled, same_held, marked, round_marked}
 use Rattle.bar_peer.proofs.memory.Memory.hear_evict.Goals as goal
 

@@ -2,15 +2,15 @@ use Rattle.std.proofs.Common.{◌≡◌, ◌∙◌, List, ℕ, length, Some, sym
 use Rattle.std.specs.Simd.{first_chunks}
 use Rattle.bar_wire.specs.Datagram.{Datagram, Body, Manifest}
 use Rattle.bar_wire.specs.Grammar.{InRange}
-use Rattle.bar_wire.specs.Views.{datagram, plain, AreWhole}
+use Rattle.bar_wire.specs.Code.Views.{datagram, plain, AreWhole}
 use Rattle.bar_wire.specs.declared.view.Body.{Body as RawBody}
 use Rattle.bar_rules.specs.Member.{Member}
 use Rattle.bar_rules.specs.Values.{datagram_bytes}
 use Rattle.bar_rules.specs.Peer.Knowledge.{learned}
-use Rattle.bar_store.specs.Held.{digest_list}
-use Rattle.bar_store.specs.Holds.{Holds}
-use Rattle.bar_bytes.specs.Rooms.{kept_in}
-use Rattle.bar_peer.specs.Memory.{member_of}
+use Rattle.bar_store.specs.Code.Held.{digest_list}
+use Rattle.bar_store.specs.Code.Holds.{Holds}
+use Rattle.bar_bytes.specs.Code.Rooms.{kept_in}
+use Rattle.bar_peer.specs.Code.Memory.{member_of}
 use Rattle.bar_wire.proofs.Steps.{length_chunks}
 use Rattle.bar_peer.proofs.Hearing.FromBroadcaster.{by_body, same_recalled, manifest_new, kept_more, whole_count}
 use Rattle.bar_peer.proofs.memory.Memory.hear_manifest.Goals as goal

@@ -1,10 +1,10 @@
 use Rattle.std.proofs.Common.{◌∙◌, sym, ap}
 use Rattle.std.specs.Prelude.{option_map}
 use Rattle.bar_wire.specs.Datagram.{Datagram, part_of}
-use Rattle.bar_wire.specs.Views.{datagram, plain}
+use Rattle.bar_wire.specs.Code.Views.{datagram, plain}
 use Rattle.bar_rules.specs.Member.{Member}
-use Rattle.bar_wire.specs.Sides.{place_in}
-use Rattle.bar_peer.specs.Memory.{member_of}
+use Rattle.bar_wire.specs.Code.Sides.{place_in}
+use Rattle.bar_peer.specs.Code.Memory.{member_of}
 use Rattle.bar_peer.proofs.Hearing.Exchanges.{unplaced, unseated}
 use Rattle.bar_peer.proofs.memory.Memory.hear_of_exchange.Goals as goal
 

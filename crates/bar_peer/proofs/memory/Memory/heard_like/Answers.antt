@@ -1,10 +1,10 @@
 use Rattle.std.proofs.Common.{◌≡◌, ◌∙◌, Some, None, sym, ap}
 use Rattle.std.specs.Prelude.{option_map}
 use Rattle.bar_wire.specs.Datagram.{Message}
-use Rattle.bar_wire.specs.Views.{datagram}
-use Rattle.bar_wire.specs.Sides.{place_in}
-use Rattle.bar_ledger.specs.Lookups.{heard_in}
-use Rattle.bar_peer.specs.Memory.{member_of}
+use Rattle.bar_wire.specs.Code.Views.{datagram}
+use Rattle.bar_wire.specs.Code.Sides.{place_in}
+use Rattle.bar_ledger.specs.Code.Lookups.{heard_in}
+use Rattle.bar_peer.specs.Code.Memory.{member_of}
 use Rattle.bar_peer.proofs.Admitting.Namesakes.{like_in, like_none}
 use Rattle.bar_peer.proofs.memory.Memory.heard_like.Goals as goal
 

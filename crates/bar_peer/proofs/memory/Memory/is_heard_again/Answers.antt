@@ -1,7 +1,7 @@
 use Rattle.std.proofs.Common.{rules, ◌≡◌, ◌∙◌, ◌&&◌, true, sym, ap}
 use Rattle.std.specs.Prelude.{is_some}
 use Rattle.bar_wire.specs.Datagram.{Message, is_signed, place_of}
-use Rattle.bar_wire.specs.Views.{datagram}
+use Rattle.bar_wire.specs.Code.Views.{datagram}
 use Rattle.bar_rules.specs.Peer.Admission.{is_named_again}
 use Rattle.bar_peer.proofs.Admitting.Namesakes.{named_like}
 use Rattle.bar_peer.proofs.memory.Memory.is_heard_again.Goals as goal

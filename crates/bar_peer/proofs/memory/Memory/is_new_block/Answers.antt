@@ -1,5 +1,5 @@
 use Rattle.std.proofs.Common.{◌∙◌, sym}
-use Rattle.bar_peer.specs.Memory.{member_of}
+use Rattle.bar_peer.specs.Code.Memory.{member_of}
 use Rattle.bar_peer.proofs.Admitting.Rows.{held_refused}
 use Rattle.bar_peer.proofs.memory.Memory.is_new_block.Goals as goal
 

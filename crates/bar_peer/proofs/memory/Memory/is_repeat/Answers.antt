@@ -1,7 +1,7 @@
 use Rattle.std.proofs.Common.{◌∙◌, sym, ap}
 use Rattle.std.specs.Prelude.{option_copied}
-use Rattle.bar_wire.specs.Views.{datagram}
-use Rattle.bar_peer.specs.Memory.{member_of}
+use Rattle.bar_wire.specs.Code.Views.{datagram}
+use Rattle.bar_peer.specs.Code.Memory.{member_of}
 use Rattle.bar_peer.proofs.Admitting.Namesakes.{repeats}
 use Rattle.bar_peer.proofs.memory.Memory.is_repeat.Goals as goal
 

@@ -3,7 +3,7 @@ use Rattle.bar_session.specs.Time.{round_after}
 use Rattle.bar_rules.specs.Member.{Member}
 use Rattle.bar_rules.specs.Peer.Debts.{owes}
 use Rattle.bar_rules.specs.Peer.Knowledge.{this_round}
-use Rattle.bar_peer.specs.Memory.{member_of}
+use Rattle.bar_peer.specs.Code.Memory.{member_of}
 use Rattle.bar_peer.proofs.memory.Memory.is_unasked.Goals as goal
 
 pub returns-then-is_named : goal.returns-then-is_named

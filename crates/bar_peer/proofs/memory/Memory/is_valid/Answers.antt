@@ -2,7 +2,7 @@
 use Rattle.std.proofs.Common.{◌≡◌, true, rules}
 use Rattle.std.specs.Prelude.{IsSome}
 use Rattle.bar_wire.specs.Datagram.{is_signed}
-use Rattle.bar_wire.specs.Views.{datagram, plain}
+use Rattle.bar_wire.specs.Code.Views.{datagram, plain}
 use Rattle.bar_rules.specs.Member.{Session}
 use Rattle.bar_peer.proofs.memory.Memory.is_valid.Goals as goal
 

@@ -3,12 +3,12 @@ use Rattle.std.specs.Prelude.{option_map}
 use Rattle.bar_terms.specs.Table.{digests_of}
 use Rattle.bar_wire.specs.Datagram.{Datagram}
 use Rattle.bar_wire.specs.Evidence.{datagrams_of}
-use Rattle.bar_wire.specs.Views.{datagram}
+use Rattle.bar_wire.specs.Code.Views.{datagram}
 use Rattle.bar_rules.specs.Member.{Member}
 use Rattle.bar_rules.specs.Peer.Evidence.{new_evidence}
 use Rattle.bar_rules.specs.Peer.Knowledge.{Knowledge, known, table_of}
 use Rattle.bar_laws.specs.Soundness.{IsSound}
-use Rattle.bar_peer.specs.Memory.{member_of}
+use Rattle.bar_peer.specs.Code.Memory.{member_of}
 use Rattle.bar_peer.proofs.Faults.Keys.{caught}
 use Rattle.bar_peer.proofs.Stepping.Datagrams.{found-kept, none-kept}
 use Rattle.bar_peer.proofs.memory.Memory.keep_found.Goals as goal

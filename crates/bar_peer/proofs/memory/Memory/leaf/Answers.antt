@@ -5,7 +5,7 @@ use Rattle.bar_wire.specs.Datagram.{place_of}
 use Rattle.bar_seal.specs.Leaves.{leaf_of}
 use Rattle.bar_rules.specs.Peer.Exchanges.{role_of}
 use Rattle.bar_rules.specs.Peer.Signing.{seat_by}
-use Rattle.bar_peer.specs.Memory.{member_of}
+use Rattle.bar_peer.specs.Code.Memory.{member_of}
 use Rattle.bar_peer.proofs.memory.Memory.leaf.Goals as goal
 
 pub returns : goal.returns

@@ -1,7 +1,7 @@
--- The memory of a peer that took no input holds what is known before the first entry of its log.
+-- The memory of a peer before any input represents the empty knowledge.
 use Rattle.std.proofs.Common.{◌∙◌, refl, sym}
 use Rattle.bar_wire.specs.Grammar.{is_wide}
-use Rattle.bar_peer.specs.Memory.{member_of}
+use Rattle.bar_peer.specs.Code.Memory.{member_of}
 use Rattle.bar_peer.proofs.memory.Memory.make.Goals as goal
 
 pub returns-clause-stands : goal.returns-clause-stands

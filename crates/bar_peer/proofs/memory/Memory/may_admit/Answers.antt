@@ -1,8 +1,8 @@
 use Rattle.std.proofs.Common.{◌≤◌, ◌∙◌, sym}
 use Rattle.bar_wire.specs.Datagram.{Datagram}
-use Rattle.bar_wire.specs.Views.{datagram, plain}
+use Rattle.bar_wire.specs.Code.Views.{datagram, plain}
 use Rattle.bar_rules.specs.Member.{Member}
-use Rattle.bar_peer.specs.Memory.{member_of}
+use Rattle.bar_peer.specs.Code.Memory.{member_of}
 use Rattle.bar_peer.proofs.Admitting.Rows.{in_time}
 use Rattle.bar_peer.proofs.Admitting.Tests.{refused_elsewhere, refused_evicted, refused_again, admitted_by_row}
 use Rattle.bar_peer.proofs.memory.Memory.may_admit.Goals as goal

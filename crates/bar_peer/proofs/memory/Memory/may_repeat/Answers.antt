@@ -1,7 +1,7 @@
 use Rattle.std.proofs.Common.{◌∙◌, sym}
-use Rattle.bar_ledger.specs.Lookups.{said_in}
+use Rattle.bar_ledger.specs.Code.Lookups.{said_in}
 use Rattle.bar_rules.specs.Peer.Exchanges.{role_of}
-use Rattle.bar_peer.specs.Memory.{member_of}
+use Rattle.bar_peer.specs.Code.Memory.{member_of}
 use Rattle.bar_peer.proofs.Orders.CarryingOut.{other_kinds}
 use Rattle.bar_peer.proofs.memory.Memory.may_repeat.Goals as goal
 

@@ -4,13 +4,13 @@ use Rattle.std.proofs.lemmas.Bool.{eq-eqb}
 use Rattle.bar_wire.specs.Datagram.{Datagram, round_of}
 use Rattle.bar_wire.specs.Bodies.{is_peer_kind}
 use Rattle.bar_wire.specs.Evidence.{evidence_bytes}
-use Rattle.bar_wire.specs.Sides.{place_in}
-use Rattle.bar_wire.specs.Views.{datagram, plain}
+use Rattle.bar_wire.specs.Code.Sides.{place_in}
+use Rattle.bar_wire.specs.Code.Views.{datagram, plain}
 use Rattle.bar_session.specs.Time.{round_after}
 use Rattle.bar_rules.specs.Member.{Member}
-use Rattle.bar_bytes.specs.Rooms.{kept_in}
+use Rattle.bar_bytes.specs.Code.Rooms.{kept_in}
 use Rattle.bar_bytes.proofs.Options.{some-copied, some-mapped}
-use Rattle.bar_peer.specs.Memory.{member_of}
+use Rattle.bar_peer.specs.Code.Memory.{member_of}
 use Rattle.bar_peer.proofs.Admitting.Tests.{shown_if_recent, peer_placed, peer_round}
 use Rattle.bar_peer.proofs.memory.Memory.may_show.Goals as goal
 

@@ -1,8 +1,8 @@
 use Rattle.std.proofs.Common.{◌∙◌, ap, arith, sym}
-use Rattle.bar_wire.specs.Views.{plain}
+use Rattle.bar_wire.specs.Code.Views.{plain}
 use Rattle.bar_wire.specs.Bodies.{request_round, query_round}
 use Rattle.bar_rules.specs.Peer.Admission.{is_row_met}
-use Rattle.bar_peer.specs.Memory.{member_of}
+use Rattle.bar_peer.specs.Code.Memory.{member_of}
 use Rattle.bar_peer.proofs.Admitting.Rows.{of_others}
 use Rattle.bar_peer.proofs.memory.Memory.meets_row.Goals as goal
 

@@ -1,8 +1,8 @@
 use Rattle.std.proofs.Common.{◌≡◌, ◌&&◌, ◌∙◌, true, false, is_some, sym, ap, refl}
-use Rattle.bar_wire.specs.Views.{plain}
+use Rattle.bar_wire.specs.Code.Views.{plain}
 use Rattle.bar_rules.specs.Peer.Admission.{is_row_met}
-use Rattle.bar_peer.specs.Memory.{member_of}
-use Rattle.bar_peer.specs.Repeats.{is_of_exchange}
+use Rattle.bar_peer.specs.Code.Memory.{member_of}
+use Rattle.bar_peer.specs.Code.Repeats.{is_of_exchange}
 use Rattle.bar_peer.proofs.Admitting.Rows.{of_exchange}
 use Rattle.bar_peer.proofs.memory.Memory.meets_row_of_exchange.Goals as goal
 

@@ -3,14 +3,14 @@ use Rattle.std.specs.Prelude.{option_map}
 use Rattle.std.specs.Option.{option_or}
 use Rattle.bar_terms.specs.Table.{digests_of}
 use Rattle.bar_wire.specs.Datagram.{Datagram, KeyGiven, Place, Key, place_of}
-use Rattle.bar_wire.specs.Views.{datagram, plain}
+use Rattle.bar_wire.specs.Code.Views.{datagram, plain}
 use Rattle.bar_session.specs.Time.{round_after}
 use Rattle.bar_rules.specs.Member.{Member}
 use Rattle.bar_rules.specs.Peer.Knowledge.{this_round}
-use Rattle.bar_wire.specs.Sides.{place_in}
-use Rattle.bar_store.specs.Held.{block_in}
-use Rattle.bar_peer.specs.Memory.{member_of}
-use Rattle.bar_peer.specs.Opening.{block_in_items}
+use Rattle.bar_wire.specs.Code.Sides.{place_in}
+use Rattle.bar_store.specs.Code.Held.{block_in}
+use Rattle.bar_peer.specs.Code.Memory.{member_of}
+use Rattle.bar_peer.specs.Code.Opening.{block_in_items}
 use Rattle.bar_peer.proofs.Hearing.Keys.{IsTheirPlace, their_place, heard_given, unheard_given, table_near, key_learned, nothing_learned, no_place}
 use Rattle.bar_peer.proofs.memory.Memory.open.Goals as goal
 

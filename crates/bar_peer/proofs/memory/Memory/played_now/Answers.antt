@@ -2,8 +2,8 @@ use Rattle.std.proofs.Common.{◌≡◌, ◌-◌, ◌∙◌, sym, ap, arith}
 use Rattle.bar_session.specs.Time.{round_after, slot_after}
 use Rattle.bar_rules.specs.Peer.Knowledge.{known}
 use Rattle.bar_wire.specs.declared.shape.Shape.{Shape}
-use Rattle.bar_peer.specs.Memory.{member_of}
-use Rattle.bar_peer.specs.Playing.{contents_in}
+use Rattle.bar_peer.specs.Code.Memory.{member_of}
+use Rattle.bar_peer.specs.Code.Playing.{contents_in}
 use Rattle.bar_peer.proofs.Stepping.Inputs.{plays-now}
 use Rattle.bar_peer.proofs.memory.Memory.played_now.Goals as goal
 

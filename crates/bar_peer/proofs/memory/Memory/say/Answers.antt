@@ -1,7 +1,7 @@
 use Rattle.std.proofs.Common.{◌∙◌, true, false, sym, refl}
 use Rattle.bar_wire.specs.declared.kind.Kind.TheVariants as kinds
 use Rattle.bar_rules.specs.Peer.Knowledge.{Knowledge, known}
-use Rattle.bar_peer.specs.Memory.{member_of}
+use Rattle.bar_peer.specs.Code.Memory.{member_of}
 use Rattle.bar_peer.proofs.Replying.ByKind.{at_kind, gives_response, gives_case, gives_key}
 use Rattle.bar_peer.proofs.Replying.PushReply.{offer_known, gives_none, gives_reply}
 use Rattle.bar_peer.proofs.Orders.Repeats.{nothing_said}

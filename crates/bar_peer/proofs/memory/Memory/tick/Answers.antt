@@ -1,14 +1,14 @@
 use Rattle.std.proofs.Common.{◌≡◌, ◌+◌, ◌∙◌, ◌∷◌, sym, ap, subst}
 use Rattle.std.specs.Prelude.{option_map}
-use Rattle.bar_store.specs.Holds.{Holds}
-use Rattle.bar_ledger.specs.Recalls.{Recalls}
+use Rattle.bar_store.specs.Code.Holds.{Holds}
+use Rattle.bar_ledger.specs.Code.Recalls.{Recalls}
 use Rattle.bar_wire.specs.Evidence.{evidence_bytes}
 use Rattle.bar_session.specs.Time.{round_after}
 use Rattle.bar_rules.specs.Member.{Member}
 use Rattle.bar_rules.specs.Values.{datagram_bytes}
 use Rattle.bar_rules.specs.Peer.Knowledge.{Knowledge, known, this_round, with_tick}
 use Rattle.bar_rules.specs.Peer.Log.{Ticked}
-use Rattle.bar_peer.specs.Memory.{member_of}
+use Rattle.bar_peer.specs.Code.Memory.{member_of}
 use Rattle.bar_peer.proofs.memory.Memory.tick.Goals as goal
 
 pub returns-clause-learns : goal.returns-clause-learns

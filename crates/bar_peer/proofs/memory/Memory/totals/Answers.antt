@@ -1,10 +1,10 @@
 use Rattle.std.proofs.Common.{◌≡◌, ◌∙◌, false, refl, sym, subst}
 use Rattle.std.proofs.lemmas.Bool.{false≢true}
-use Rattle.bar_ledger.specs.Totals.{AreSound}
+use Rattle.bar_ledger.specs.Code.Totals.{AreSound}
 use Rattle.bar_rules.specs.Peer.Exchanges.{role_of}
 use Rattle.bar_rules.specs.Peer.Knowledge.{has_said_of}
 use Rattle.bar_wire.specs.declared.kind.Kind.TheVariants.{Case}
-use Rattle.bar_peer.specs.Memory.{member_of}
+use Rattle.bar_peer.specs.Code.Memory.{member_of}
 use Rattle.bar_peer.proofs.Giving.Totals.{found, no_case_said, said_soundly, none_told, kept_told}
 use Rattle.bar_peer.proofs.memory.Memory.totals.Goals.{then-not-entry-via-then-not-entry, then-not-entry-via-else-not-entry+then-not-are_sound}
 use Rattle.bar_peer.proofs.memory.Memory.totals.Goals as goal

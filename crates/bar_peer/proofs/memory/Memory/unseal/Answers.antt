@@ -7,10 +7,10 @@ use Rattle.bar_case.specs.Opened.{opening, opened_blocks, AreTold}
 use Rattle.bar_case.specs.declared.findings.Opening.TheVariants.{Good}
 use Rattle.bar_wire.specs.Bodies.{briefcase_in}
 use Rattle.bar_wire.specs.Datagram.{Briefcase}
-use Rattle.bar_wire.specs.Views.{plain}
+use Rattle.bar_wire.specs.Code.Views.{plain}
 use Rattle.bar_wire.specs.declared.shape.Shape.{Shape}
 use Rattle.bar_rules.specs.Values.{opening_of}
-use Rattle.bar_peer.specs.Opening.{AreGiven}
+use Rattle.bar_peer.specs.Code.Opening.{AreGiven}
 use Rattle.bar_peer.proofs.Hearing.Blocks.{good_given, bad_given}
 use Rattle.bar_peer.proofs.memory.Memory.unseal.Goals as goal
 

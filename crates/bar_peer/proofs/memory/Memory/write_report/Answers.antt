@@ -1,7 +1,7 @@
 use Rattle.std.proofs.Common.{◌≡◌, ◌∙◌, ℕ, List, Some, length, sym, ap, arith}
 use Rattle.std.specs.Prelude.{option_map}
 use Rattle.std.proofs.lemmas.List.{append-nil, length-take}
-use Rattle.bar_bytes.specs.Rooms.{kept_in}
+use Rattle.bar_bytes.specs.Code.Rooms.{kept_in}
 use Rattle.bar_wire.specs.Datagram.{Evidence, Message}
 use Rattle.bar_wire.specs.Evidence.{evidence_bytes, IsEvidence}
 use Rattle.bar_wire.specs.Grammar.{message_bytes}

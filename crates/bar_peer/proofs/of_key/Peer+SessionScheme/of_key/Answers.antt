@@ -1,4 +1,4 @@
--- What a key signs with is as its session's scheme, whatever it remembers.
+-- A key signs as its session's scheme does, whatever signatures it remembers.
 use Rattle.std.proofs.Common.{◌∙◌, sym, subst}
 use Rattle.bar_hss.specs.declared.chosen.SessionScheme.{SessionScheme}
 use Rattle.bar_hss.specs.Files.{SignsFor}

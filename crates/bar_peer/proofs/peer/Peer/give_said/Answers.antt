@@ -1,5 +1,5 @@
-use Rattle.bar_rules.specs.Giving.{IsGiven}
-use Rattle.bar_peer.specs.Memory.{member_of}
+use Rattle.bar_rules.specs.Code.Giving.{IsGiven}
+use Rattle.bar_peer.specs.Code.Memory.{member_of}
 use Rattle.bar_peer.proofs.Giving.Next.{written_is, never_unwritten}
 use Rattle.bar_peer.proofs.peer.Peer.give_said.Goals as goal
 

@@ -1,6 +1,6 @@
 use Rattle.std.proofs.Common.{subst}
-use Rattle.bar_peer.specs.Giving.{IsOrderDue}
-use Rattle.bar_peer.specs.Memory.{member_of}
+use Rattle.bar_peer.specs.Code.Giving.{IsOrderDue}
+use Rattle.bar_peer.specs.Code.Memory.{member_of}
 use Rattle.bar_peer.proofs.peer.Peer.kept_case.Goals as goal
 
 pub returns : goal.returns

@@ -1,10 +1,10 @@
 use Rattle.std.proofs.Common.{◌∙◌, ℕ, [], ◌∷◌, sym, ap, subst}
 use Rattle.bar_rules.specs.Peer.Knowledge.{known}
 use Rattle.bar_rules.specs.Peer.Run.{log_after}
-use Rattle.bar_peer.specs.Memory.{member_of}
-use Rattle.bar_core.specs.Orders.{left_in}
-use Rattle.bar_peer.specs.StandsFor.{AreLeft}
-use Rattle.bar_rules.specs.Giving.{GivesNext}
+use Rattle.bar_peer.specs.Code.Memory.{member_of}
+use Rattle.bar_core.specs.Code.Orders.{left_in}
+use Rattle.bar_peer.specs.Code.StandsFor.{AreLeft}
+use Rattle.bar_rules.specs.Code.Giving.{GivesNext}
 use Rattle.bar_peer.proofs.Giving.Next.{none_left, next_of, never_none}
 use Rattle.bar_peer.proofs.peer.Peer.next_out.Goals as goal
 

@@ -1,6 +1,6 @@
 use Rattle.std.proofs.Common.{◌∙◌, ap, refl}
-use Rattle.bar_peer.specs.Playing.{content_in}
-use Rattle.bar_peer.specs.StandsFor.{contents_left}
+use Rattle.bar_peer.specs.Code.Playing.{content_in}
+use Rattle.bar_peer.specs.Code.StandsFor.{contents_left}
 use Rattle.bar_peer.proofs.Giving.Contents.{plays_none, plays_one}
 use Rattle.bar_peer.proofs.peer.Peer.next_played.Goals as goal
 

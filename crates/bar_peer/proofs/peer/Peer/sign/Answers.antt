@@ -6,8 +6,8 @@ use Rattle.bar_wire.specs.Kinds.{is_signed_kind}
 use Rattle.bar_rules.specs.Secrets.{signature_of}
 use Rattle.bar_rules.specs.Values.{message_bytes}
 use Rattle.bar_rules.specs.Peer.Signing.{leaf_for}
-use Rattle.bar_peer.specs.Giving.{IsSignedFor}
-use Rattle.bar_peer.specs.Memory.{member_of}
+use Rattle.bar_peer.specs.Code.Giving.{IsSignedFor}
+use Rattle.bar_peer.specs.Code.Memory.{member_of}
 use Rattle.bar_session.proofs.Levels.{session_short}
 use Rattle.bar_peer.proofs.Giving.Signatures.{behind}
 use Rattle.bar_peer.proofs.peer.Peer.sign.Goals as goal

@@ -1,7 +1,7 @@
--- The scheme that a peer is started with accepts as the session's does.
+-- The scheme of a new peer accepts the signatures that the session's scheme accepts.
 use Rattle.std.proofs.Common.{sym, subst}
 use Rattle.bar_peer.specs.declared.credentials.Credentials.{Credentials}
-use Rattle.bar_peer.specs.Checking.{IsGuardOf}
+use Rattle.bar_peer.specs.Code.Checking.{IsGuardOf}
 use Rattle.bar_peer.proofs.Stepping.Guards.{made_guards}
 use Rattle.bar_peer.proofs.peer.Peer.start.Goals as goal
 

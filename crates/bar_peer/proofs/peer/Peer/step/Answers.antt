@@ -5,17 +5,17 @@ use Rattle.bar_wire.specs.Inputs.{Input}
 use Rattle.bar_wire.specs.Inputs as event
 use Rattle.bar_rules.specs.Runs.{begun}
 use Rattle.bar_session.specs.SessionData.{SessionData}
-use Rattle.bar_peer.specs.Steps.{is_tick}
+use Rattle.bar_peer.specs.Code.Steps.{is_tick}
 use Rattle.bar_laws.specs.Ignoring.{is_unread}
 use Rattle.bar_peer.proofs.Stepping.Ignored.{none_mapped}
 use Rattle.bar_wire.specs.Inputs.{plain_input}
 use Rattle.bar_rules.specs.Member.{Member}
 use Rattle.bar_rules.specs.Peer.Log.{Log}
 use Rattle.bar_rules.specs.Peer.Run.{Out, log_after, step}
-use Rattle.bar_peer.specs.Memory.{member_of, Represents}
-use Rattle.bar_core.specs.Orders.{left_in}
+use Rattle.bar_peer.specs.Code.Memory.{member_of, Represents}
+use Rattle.bar_core.specs.Code.Orders.{left_in}
 use Rattle.bar_core.proofs.Left.{all-left, nothing-left}
-use Rattle.bar_peer.specs.StandsFor.{contents_left}
+use Rattle.bar_peer.specs.Code.StandsFor.{contents_left}
 use Rattle.bar_peer.proofs.Giving.Kept.{kept_while}
 use Rattle.bar_peer.proofs.Stepping.Inputs.{log-more, over-stands, none-left, obeys-now, then-stands, then-sends, PlaysNow, tick-step, datagram-step}
 use Rattle.bar_peer.proofs.peer.Peer.step.Goals as goal

@@ -1,11 +1,11 @@
--- What is known is told, and a key was sent where it was signed.
+-- The reported totals are those of the knowledge, and a KEY was sent if and only if it was signed.
 use Rattle.std.proofs.Common.{◌+◌, [], sym, subst}
 use Rattle.std.specs.Prelude.{nat_le, if◌then◌else◌}
 use Rattle.bar_rules.specs.Peer.Knowledge.{known, this_round}
 use Rattle.bar_rules.specs.Peer.Run.{log_after}
 use Rattle.bar_rules.specs.Peer.Terms.{totals_with}
-use Rattle.bar_peer.specs.Memory.{member_of}
-use Rattle.bar_peer.specs.Telling.{HasTotals, no_totals}
+use Rattle.bar_peer.specs.Code.Memory.{member_of}
+use Rattle.bar_peer.specs.Code.Telling.{HasTotals, no_totals}
 use Rattle.bar_peer.proofs.peer.Peer.totals.Goals as goal
 
 pub returns : goal.returns

@@ -1,6 +1,6 @@
 use Rattle.std.proofs.Common.{◌≡◌, ◌∙◌, ◌+◌, ◌-◌, ◌++◌, List, ℕ, true, false, is_some, sym, ap, arith, refl}
 use Rattle.std.specs.List.{flat_map, range_with_len}
-use Rattle.bar_peer.specs.Playing.{content_in}
+use Rattle.bar_peer.specs.Code.Playing.{content_in}
 use Rattle.bar_peer.proofs.Giving.Contents.{one_first, one_content, none_played}
 use Rattle.bar_peer.proofs.playing.Playing.next.Goals as goal
 

@@ -1,8 +1,8 @@
 use Rattle.std.proofs.Common.{◌≡◌}
-use Rattle.bar_peer.specs.StandsFor.{contents_left}
+use Rattle.bar_peer.specs.Code.StandsFor.{contents_left}
 use Rattle.bar_peer.proofs.playing.Playing.next.Given as goal
 
--- what is passed over has no content
+-- the updates before the current index have no content
 abbrev pub invariant-loop-index : goal.invariant-loop-index
 invariant-loop-index l = record {
   next : l.self.next ≡ l.index;

@@ -1,8 +1,8 @@
 use Rattle.std.proofs.Common.{◌∙◌, Some, ap}
 use Rattle.std.specs.Option.{option_or}
-use Rattle.bar_wire.specs.Sides.{place_in}
+use Rattle.bar_wire.specs.Code.Sides.{place_in}
 use Rattle.bar_rules.specs.Peer.Evidence.{pairs_elsewhere}
-use Rattle.bar_peer.specs.Searching.{searched, searcher}
+use Rattle.bar_peer.specs.Code.Searching.{searched, searcher}
 use Rattle.bar_peer.proofs.search.Search.earlier.Goals as goal
 
 pub returns-in-Some-clause-exact : goal.returns-in-Some-clause-exact

@@ -2,13 +2,13 @@ use Rattle.std.proofs.Common.{◌≡◌, ◌∙◌, ◌≤◌, ◌∷◌, [], Li
 use Rattle.std.specs.Prelude.{option_map}
 use Rattle.bar_lms.specs.Schemes.{named_by}
 use Rattle.bar_wire.specs.Datagram.{Datagram}
-use Rattle.bar_wire.specs.Sides.{place_in}
-use Rattle.bar_wire.specs.Views.{signature_bytes}
+use Rattle.bar_wire.specs.Code.Sides.{place_in}
+use Rattle.bar_wire.specs.Code.Views.{signature_bytes}
 use Rattle.bar_rules.specs.Member.{Member}
 use Rattle.bar_rules.specs.Values.{leaf_named}
 use Rattle.bar_rules.specs.Verifiers.{NamesLeavesOf}
 use Rattle.bar_ledger.specs.declared.ledger.Ledger.{Ledger}
-use Rattle.bar_peer.specs.Searching.{searched, searcher}
+use Rattle.bar_peer.specs.Code.Searching.{searched, searcher}
 use Rattle.bar_peer.proofs.Faults.OtherExchanges.{IsTriedElsewhere, elsewhere_is, few_rounds}
 use Rattle.bar_peer.proofs.Faults.Search.{stands_at}
 use Rattle.bar_peer.proofs.search.Search.earlier_elsewhere.Goals as goal

@@ -6,7 +6,7 @@ use Rattle.bar_wire.specs.declared.place.Place.{Place}
 use Rattle.bar_rules.specs.Peer.Evidence.{pair_with}
 use Rattle.bar_rules.specs.Peer.Knowledge.{Knowledge, table_of}
 use Rattle.bar_peer.specs.declared.search.Search.{Search}
-use Rattle.bar_peer.specs.Searching.{searched}
+use Rattle.bar_peer.specs.Code.Searching.{searched}
 use Rattle.bar_peer.proofs.search.Search.earlier_here.Goals as goal
 
 abbrev behind : Knowledge → Search → Place → Kind → Option (List (List ℕ))

@@ -2,11 +2,11 @@ use Rattle.std.proofs.Common.{◌≡◌, ◌∙◌, List, ℕ, sym, ap}
 use Rattle.std.specs.Prelude.{option_copied}
 use Rattle.std.proofs.lemmas.Bool.{not-false, not-true}
 use Rattle.bar_lms.specs.Schemes.{named_by}
-use Rattle.bar_wire.specs.Views.{signature_bytes}
+use Rattle.bar_wire.specs.Code.Views.{signature_bytes}
 use Rattle.bar_rules.specs.Member.{Member}
 use Rattle.bar_rules.specs.Values.{leaf_named}
 use Rattle.bar_rules.specs.Verifiers.{NamesLeavesOf}
-use Rattle.bar_peer.specs.Searching.{searched, searcher}
+use Rattle.bar_peer.specs.Code.Searching.{searched, searcher}
 use Rattle.bar_peer.proofs.Faults.Keys.{none_again}
 use Rattle.bar_peer.proofs.search.Search.is_key_again.Goals as goal
 

@@ -1,10 +1,10 @@
 use Rattle.std.proofs.Common.{◌≡◌, ◌∙◌, List, ℕ, true, false, None, is_some, sym, ap}
 use Rattle.std.specs.Prelude.{option_copied, option_map}
 use Rattle.bar_wire.specs.Places as places
-use Rattle.bar_wire.specs.Views.{datagram}
+use Rattle.bar_wire.specs.Code.Views.{datagram}
 use Rattle.bar_rules.specs.Values.{datagram_of}
 use Rattle.bar_rules.specs.Peer.Knowledge.{Knowledge}
-use Rattle.bar_peer.specs.Searching.{GoesBy, pair_behind, searched}
+use Rattle.bar_peer.specs.Code.Searching.{GoesBy, pair_behind, searched}
 use Rattle.bar_peer.proofs.Faults.Trials.{IsRecalled}
 use Rattle.bar_peer.proofs.Faults.Search.{heard_is_read, pair_found, recalled_at, unheard, unpaired}
 use Rattle.bar_peer.proofs.search.Search.pair_with.Given.{Over}
@@ -33,7 +33,7 @@ returns-in_err-earlier-clause-exact g c k goes =
     (sym c.heard_from.ensures ∙ ap option_copied c.in_ok-heard.was)
     unread)
 
--- what is read of the bytes that were heard was heard
+-- the datagram that is decoded from the heard bytes was heard
 was : (g : Over) (c : After-is_peer_kind g) (k : Knowledge) → GoesBy k c.args.self.now
     → IsRecalled c.args.self.now.who.now.session (searched c.args.self.now) (k.heard c.args.kind c.args.place.x c.args.place.role)
     c.in_ok-heard.heard.now (datagram c.args.self.now.who.now.session.shape c.in_ok-earlier.earlier)

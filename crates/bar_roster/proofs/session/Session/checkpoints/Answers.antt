@@ -1,5 +1,5 @@
 use Rattle.std.proofs.Common.{◌≡◌, ◌+◌, rules}
-use Rattle.bar_seeds.specs.Checkpoints.{parties_in}
+use Rattle.bar_seeds.specs.Code.Checkpoints.{parties_in}
 use Rattle.bar_roster.proofs.PointLemmas.{no_seeds}
 use Rattle.bar_roster.proofs.session.Session.checkpoints.Goals as goal
 

@@ -1,5 +1,5 @@
 use Rattle.std.proofs.Common.{arith}
-use Rattle.bar_store.specs.Held.{block_in}
+use Rattle.bar_store.specs.Code.Held.{block_in}
 use Rattle.bar_store.proofs.Ring.{IsInTime, after_hold, rooms_after, room_inside}
 use Rattle.bar_store.proofs.store.Store.hold.Goals as goal
 

@@ -1,8 +1,8 @@
 use Rattle.std.proofs.Common.{refl, ◌≡◌, ◌+◌, ◌*◌, replicate, Option, None, ap, ◌∙◌, rules}
 use Rattle.bar_store.specs.declared.kept_block.KeptBlock.{KeptBlock}
-use Rattle.bar_store.specs.Rooms.{block_at}
-use Rattle.bar_store.specs.Held.{block_in}
-use Rattle.bar_terms.specs.Room.{TableWithRoom}
+use Rattle.bar_store.specs.Code.Rooms.{block_at}
+use Rattle.bar_store.specs.Code.Held.{block_in}
+use Rattle.bar_terms.specs.Code.Room.{TableWithRoom}
 use Rattle.bar_store.proofs.Learns.{starts}
 use Rattle.bar_store.proofs.Ring.{none_in}
 use Rattle.bar_store.proofs.store.Store.make.Goals as goal

@@ -1,4 +1,4 @@
--- What the socket gave so far was dropped.
+-- All datagrams that the socket gave so far were dropped.
 use Rattle.std.proofs.Common.{[]}
 use Rattle.bar_system.specs.Binding.{Gives}
 use Rattle.bar_system.proofs.bound.Bound.wait.Given as goal

@@ -1,5 +1,5 @@
 use Rattle.std.proofs.Common.{rules, ◌≡◌, ◌+◌, ◌++◌, ◌∷◌, [], length, map, string_bytes, ap, arith}
-use Rattle.bar_outside.specs.Children.{Started}
+use Rattle.bar_outside.specs.Code.Children.{Started}
 use Rattle.bar_system.specs.History.{calls_of}
 use Rattle.bar_outside.proofs.OpenLemmas.{below-call, below-more, next-new}
 use Rattle.bar_system.proofs.spawner.RealSpawnerSpawner.start.Goals as goal

@@ -1,5 +1,5 @@
 use Rattle.std.proofs.Common.{◌≡◌, ◌+◌, ◌-◌, [], length, replicate, Option, None, ap, ◌∙◌, ℕ, arith, rules}
-use Rattle.bar_terms.specs.Room.{lists_of}
+use Rattle.bar_terms.specs.Code.Room.{lists_of}
 use Rattle.bar_terms.proofs.Lookups.{no_lists}
 use Rattle.bar_terms.proofs.table.Table.make.Goals as goal
 

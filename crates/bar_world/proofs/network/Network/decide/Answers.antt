@@ -1,5 +1,5 @@
 use Rattle.bar_world.proofs.Decided.{once-ok, twice-ok}
-use Rattle.bar_world.specs.Moves.{plain_move}
+use Rattle.bar_world.specs.Code.Moves.{plain_move}
 use Rattle.bar_world.proofs.network.Network.decide.Goals as goal
 use Rattle.std.proofs.Common.{◌≡◌, ◌%◌, arith}
 

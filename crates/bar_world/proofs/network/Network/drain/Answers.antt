@@ -1,6 +1,6 @@
 use Rattle.std.proofs.Common.{◌≡◌, ◌+◌, ◌^◌, ◌<◌, sym, subst, arith}
 use Rattle.bar_world.specs.Network.{drained}
-use Rattle.bar_world.specs.Playing.{IsPlaying}
+use Rattle.bar_world.specs.Code.Playing.{IsPlaying}
 use Rattle.bar_world.proofs.Rounds.{drained-more, drained-none, fewer-counts}
 use Rattle.bar_world.proofs.network.Network.drain.Goals as goal
 

@@ -1,10 +1,10 @@
 use Rattle.std.proofs.Common.{ℕ, ◌+◌}
 use Rattle.bar_world.specs.Network.{Game, Play, drained}
-use Rattle.bar_world.specs.Kept.{IsReady}
-use Rattle.bar_world.specs.Playing.{IsPlaying, HasWords, HasCounts}
+use Rattle.bar_world.specs.Code.Kept.{IsReady}
+use Rattle.bar_world.specs.Code.Playing.{IsPlaying, HasWords, HasCounts}
 use Rattle.bar_world.proofs.network.Network.drain.Given as goal
 
--- so many entries are served
+-- `turn` entries are served
 abbrev pub invariant-loop-turn : goal.invariant-loop-turn
 invariant-loop-turn l = record {
   ready : IsReady l.self.world;

@@ -1,5 +1,5 @@
 use Rattle.std.proofs.Common.{◌≡◌, length, refl, arith}
-use Rattle.bar_world.specs.Moves.{plain_move}
+use Rattle.bar_world.specs.Code.Moves.{plain_move}
 use Rattle.bar_world.proofs.Moved.{moved-ok}
 use Rattle.bar_world.proofs.network.Network.make.Goals as goal
 

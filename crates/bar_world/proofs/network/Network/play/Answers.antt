@@ -1,7 +1,7 @@
 use Rattle.std.proofs.Common.{◌≡◌, ◌+◌, ◌*◌, ◌^◌, ◌<◌, sym, ap, subst, arith}
 use Rattle.std.specs.List.{range_with_len}
 use Rattle.bar_world.specs.Network.{played_on, ticked, drained}
-use Rattle.bar_world.specs.Playing.{IsPlaying}
+use Rattle.bar_world.specs.Code.Playing.{IsPlaying}
 use Rattle.bar_world.proofs.Rounds.{played-more, played-none, fewer-counts, counts-stay, words-stay}
 use Rattle.bar_world.proofs.network.Network.play.Goals as goal
 

@@ -1,10 +1,10 @@
 use Rattle.std.proofs.Common.{ℕ, ◌+◌, ◌*◌}
 use Rattle.bar_world.specs.Network.{Game, Play, played_on}
-use Rattle.bar_world.specs.Kept.{IsReady}
-use Rattle.bar_world.specs.Playing.{IsPlaying, HasWords, HasCounts}
+use Rattle.bar_world.specs.Code.Kept.{IsReady}
+use Rattle.bar_world.specs.Code.Playing.{IsPlaying, HasWords, HasCounts}
 use Rattle.bar_world.proofs.network.Network.play.Given as goal
 
--- so many ticks are over
+-- `tick` ticks are over
 abbrev pub invariant-loop-tick : goal.invariant-loop-tick
 invariant-loop-tick l = record {
   ready : IsReady l.self.world;

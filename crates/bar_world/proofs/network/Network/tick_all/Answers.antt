@@ -1,7 +1,7 @@
 use Rattle.std.proofs.Common.{◌≡◌, ◌+◌, refl, sym, ◌∙◌, subst, arith}
 use Rattle.std.specs.List.{range_with_len}
 use Rattle.bar_world.specs.Network.{ticked}
-use Rattle.bar_world.specs.Playing.{IsPlaying}
+use Rattle.bar_world.specs.Code.Playing.{IsPlaying}
 use Rattle.bar_world.proofs.Rounds.{ticked-more, ticked-none}
 use Rattle.bar_world.proofs.network.Network.tick_all.Goals as goal
 

@@ -1,7 +1,7 @@
 use Rattle.std.proofs.Common.{◌≡◌, ◌≤◌, length, take}
 use Rattle.bar_world.proofs.small_list.SmallList.of.Given as goal
 
--- the first of the parties stand in the list, as long as they fit
+-- the list contains the parties before the current one, as long as they fit
 abbrev pub invariant-loop-party : goal.invariant-loop-party
 invariant-loop-party l = record {
   few : l.len ≤ 5;

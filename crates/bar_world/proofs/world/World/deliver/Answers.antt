@@ -5,7 +5,7 @@ use Rattle.std.proofs.lemmas.Option.{slice_get_read}
 use Rattle.bar_wire.specs.Inputs.{Datagram}
 use Rattle.bar_rules.specs.World.World.{Deliver}
 use Rattle.bar_laws.specs.Parties.{after}
-use Rattle.bar_world.specs.Given.{Gives}
+use Rattle.bar_world.specs.Code.Given.{Gives}
 use Rattle.bar_world.proofs.Idle.{delivered-gives, past-pool}
 use Rattle.bar_world.proofs.Takes.{on-ok}
 use Rattle.bar_world.proofs.world.World.deliver.Goals as goal

@@ -2,7 +2,7 @@ use Rattle.std.proofs.Common.{refl, sym, subst}
 use Rattle.bar_wire.specs.Inputs.{Datagram}
 use Rattle.bar_rules.specs.World.World.{Hostile, TickOf}
 use Rattle.bar_laws.specs.Parties.{after}
-use Rattle.bar_world.specs.Given.{Gives}
+use Rattle.bar_world.specs.Code.Given.{Gives}
 use Rattle.bar_world.proofs.Takes.{on-ok}
 use Rattle.bar_world.proofs.world.World.happen.Goals as goal
 

@@ -2,8 +2,8 @@ use Rattle.std.proofs.Common.{List, [], sym, subst}
 use Rattle.std.specs.Prelude.{IfOk}
 use Rattle.bar_seeds.specs.declared.secrets.Secrets.{Secrets}
 use Rattle.bar_rules.specs.World.World.{IsSetup}
-use Rattle.bar_world.specs.Kept.{StandsFor}
-use Rattle.bar_world.specs.Setups.{AreOfParties, setup_of}
+use Rattle.bar_world.specs.Code.Kept.{StandsFor}
+use Rattle.bar_world.specs.Code.Setups.{AreOfParties, setup_of}
 use Rattle.bar_world.proofs.KeyFiles.{held-is, made-for}
 use Rattle.bar_world.proofs.world.World.make.Goals as goal
 

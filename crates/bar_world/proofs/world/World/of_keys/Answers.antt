@@ -4,7 +4,7 @@ use Rattle.std.proofs.lemmas.List.{length-map}
 use Rattle.std.proofs.lemmas.Option.{slice_get-get_or, slice_get_within}
 use Rattle.bar_roster.specs.declared.key_file.KeyFile.{KeyFile}
 use Rattle.bar_world.specs.Keys.{held_in}
-use Rattle.bar_world.specs.Packets.{packets_of}
+use Rattle.bar_world.specs.Code.Packets.{packets_of}
 use Rattle.bar_world.proofs.Started.{caster-key, first-and-rest, peer-key, started, texts-count}
 use Rattle.bar_world.proofs.world.World.of_keys.Goals.{After-remove}
 use Rattle.bar_world.proofs.world.World.of_keys.Goals as goal

@@ -1,0 +1,22 @@
+-- Definitions about code: a peer's memory, orders, guard and searches. The headline rests on none of them.
+pub mod Evictions
+pub mod Arrivals
+pub mod Memory
+pub mod Sending
+pub mod Repeats
+pub mod Ticking
+pub mod Giving
+pub mod StandsFor
+pub mod Opening
+pub mod Steps
+pub mod Hearing
+pub mod Playing
+pub mod Telling
+pub mod Trying
+pub mod Orders
+pub mod Time
+pub mod Runs
+pub mod Checking
+pub mod Searching
+pub mod Ignoring
+pub mod Cases
