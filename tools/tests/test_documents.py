@@ -325,7 +325,7 @@ class Commands(Repository):
 
     def test_a_script_without_help(self):
         faults = self.check({"tools/greet": "#!/bin/sh\nexit 3\n", "README.md": README.replace("```sh run\n", "```sh\n")})[1]
-        self.assertTrue(any("`tools/greet --help` tells nothing" in fault for fault in faults), faults)
+        self.assertTrue(any("`tools/greet --help` prints nothing" in fault for fault in faults), faults)
 
     def test_an_option_in_a_block(self):
         self.assert_found(self.changed("README.md", "count --from 2", "count --until 2"), "README.md:25: `count` has no option `--until`")

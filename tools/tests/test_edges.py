@@ -55,7 +55,7 @@ class Looks(unittest.TestCase):
         self.assertEqual(self.faults(ran(3, b"bar: file failed\nmore\n", {}), 3), [twice])
 
     def test_files_that_are_no_fronts(self):
-        told = ["peer: it leaves the file other, which a whole run doesn't", "peer: the file played is no front of that of a whole run"]
+        told = ["peer: it leaves the file other, which a whole run doesn't", "peer: the file played isn't a prefix of that of a whole run"]
         self.assertEqual(self.faults(ran(143, files={"played": b"whole", "other": b""}), 143), told)
 
     def test_runs_that_end_well_leave_all(self):

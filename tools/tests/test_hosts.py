@@ -35,7 +35,7 @@ class Texts(unittest.TestCase):
         self.assertEqual((host.parties, host.address, host.listen), ((1, 2, 3), "192.0.2.11", "10.0.0.5"))
 
     def test_texts_that_are_none(self):
-        self.assertIn("is no TOML", self.refused("[[host")[0])
+        self.assertIn("isn't valid TOML", self.refused("[[host")[0])
         for text in ("", "host = 1", "host = [1]", "[host]\nname = 'one'"):
             self.assertIn("has no tables [[host]]", self.refused(text)[0])
         self.assertEqual(self.refused("port = 1\n" + ONE + TWO), ["the text of hosts has the key 'port': it has tables [[host]] alone"])

@@ -32,7 +32,7 @@ class Refusals(RoomCase):
         lines = self.refused(*words, stream=self.room / "missing")
         self.assertEqual([line.split(" is ")[0] for line in lines[:5]], ["--peers", "--rounds", "--life", "--cap", "--port"])
         self.assertIn("missing: name a file", lines[5])
-        self.assertIn("--seed xyz is no hex", lines[6])
+        self.assertIn("--seed xyz isn't hex", lines[6])
         self.assertEqual(lines[7:], ["REFUSED: nothing was done, for the 7 reasons above"])
 
     def test_one_fault_is_the_last_line(self):
@@ -81,7 +81,7 @@ class Refusals(RoomCase):
         self.assertEqual(len(self.faults(folder=self.room / "link")), 1)
 
     def test_folder_below_a_file(self):
-        self.assertEqual(self.faults(folder=self.stream / "a/b"), [f"{self.stream} is no folder: name one below a folder"])
+        self.assertEqual(self.faults(folder=self.stream / "a/b"), [f"{self.stream} isn't a folder: name one below a folder"])
 
     def test_program_that_is_missing(self):
         self.assertIn("there is no program at", self.refused("--rounds", 1)[-1])

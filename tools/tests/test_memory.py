@@ -79,7 +79,7 @@ class Stops(unittest.TestCase):
     def test_what_is_no_front(self):
         self.assertEqual(self.faults(self.stopped(b"", 3)), ["its status is 3"])
         self.assertEqual(self.faults(self.stopped(b"", said=b"bar: file failed\n")), ["it says b'bar: file failed\\n'"])
-        told = "what it prints or sends is no front of that of the undisturbed run"
+        told = "what it prints or sends isn't a prefix of that of the undisturbed run"
         self.assertIn(told, self.faults(self.stopped(b"1 1 b")))
         self.assertEqual(self.faults(self.stopped(b"", other=b"")), ["it leaves the file other, which a whole run doesn't"])
         changed = self.stopped(b"")

@@ -61,7 +61,7 @@ class Refusals(SessionCase):
 
     def test_a_text_that_is_none(self):
         self.folder.session.write_text("version = 1")
-        self.assertIn("is no session's text: it has no tables [[peer]]; make a new session", self.refused()[0])
+        self.assertIn("isn't the text of a session: it has no tables [[peer]]; make a new session", self.refused()[0])
 
     def test_files_that_are_missing(self):
         self.folder.key(2).unlink()
@@ -82,9 +82,9 @@ class Refusals(SessionCase):
         self.change_key(2, "spent = false", "spent")
         reasons = self.refused()
         self.assertEqual(len(reasons), 3)
-        self.assertIn("key.1 is no key of this session: it has another party than party 1 of the session; make", reasons[0])
-        self.assertIn("key.2 is no key of this session: it is no TOML", reasons[1])
-        self.assertIn("key.0 is no key of this session: it has another lms than party 0 of the session; make", reasons[2])
+        self.assertIn("key.1 isn't a key of this session: it has another party than party 1 of the session; make", reasons[0])
+        self.assertIn("key.2 isn't a key of this session: it isn't valid TOML", reasons[1])
+        self.assertIn("key.0 isn't a key of this session: it has another lms than party 0 of the session; make", reasons[2])
 
     def test_a_stream_larger_than_its_room(self):
         self.folder.stream.write_bytes(bytes(self.session.room + 1))
@@ -226,7 +226,7 @@ class Outcomes(SessionCase):
         for text in ("[]", "{}", '{"liars": []}', '{"liars": {"one": "key"}}', "no JSON"):
             self.folder.network.write_text(text)
             status, _, err = run_script(*words)
-            self.assertEqual((status, err[-1]), (2, f"REFUSED: {self.folder.network} tells of no network: move it away"))
+            self.assertEqual((status, err[-1]), (2, f"REFUSED: {self.folder.network} doesn't describe a network: move it away"))
         self.folder.network.write_text('{"liars": {"1": "\\u001b[2J"}}')
         status, out, err = run_script(*words)
         self.assertEqual((status, "\x1b" in "".join(out + err)), (2, False), err)

@@ -104,7 +104,7 @@ class Refusals(RoomCase):
         self.assertEqual(self.refused("experiment", self.room, "--seeds", 0), "REFUSED: --seeds is 0: take 1 or more")
         self.assertEqual(self.refused("experiment", self.room, "--loss", 101), "REFUSED: --loss is 101: take 0 to 100")
         self.assertIn("--rounds is 0: it has to be", self.refused("experiment", self.room, "--rounds", 0, "--only", "cap"))
-        self.assertIn("is no folder that takes files", self.refused("experiment", self.stream))
+        self.assertIn("isn't a folder that takes files", self.refused("experiment", self.stream))
 
     def test_networks_and_liars(self):
         self.make_session(fake_program(self.room))

@@ -209,7 +209,7 @@ class Script(SpanCase):
 
     def test_times_that_are_refused(self):
         for text in ("18:00", "2030-01-01", "2030-01-01T18:00:00", "1796000000000"):
-            told = f"REFUSED: --begin {text} is no time: give one with its zone, such as 2030-01-01T18:00:00+00:00"
+            told = f"REFUSED: --begin {text} isn't a time: give one with its zone, such as 2030-01-01T18:00:00+00:00"
             self.assertEqual(self.refused("--begin", text), [told])
         self.assertIn("is over, or more than 48 hours ahead", self.refused("--begin", "2020-01-01T00:00:00Z")[0])
 

@@ -106,7 +106,7 @@ class OnThePage(RoomCase):
                 decoded.Video.of_json(text)
         folder.video.write_text("[]")
         (cause,), told = runner.draw(folder, self.run_, None)
-        self.assertTrue(cause.startswith(f"{folder.video} can't be read: it is no video.json: "), cause)
+        self.assertTrue(cause.startswith(f"{folder.video} can't be read: it isn't a video.json: "), cause)
         self.assertEqual(told, "timeline.html isn't drawn")
 
     def test_a_run_without_a_page(self):

@@ -3,6 +3,8 @@
 use bar_hss::{HssKeyFile, hss_key_text};
 use bar_roster::Session;
 use bar_seal::Scheme;
+use std::alloc::{AllocError, Global};
+use std::process::Abort;
 use std::test::Fail;
 
 const SESSION: &str = "version = 1
@@ -65,28 +67,35 @@ fn bytes<const N: usize>(text: &str) -> Result<[u8; N], Fail> {
 }
 
 #[test]
-fn key_texts_of_two_levels_are_nine_lines(rt: HostRuntime) -> Result<(), Fail> {
-    let id = bytes::<8>(ID)?;
-    for (wanted, party, secret) in [(CASTER_TEXT, 0, CASTER_SECRET), (PEER_TEXT, 1, PEER_SECRET)] {
-        let secret = bytes::<32>(secret)?;
-        let text = hss_key_text(rt.alloc(), party, &id, 12, 5, 4, &secret, false)?;
-        assert_eq!(rt; text.as_slice(), wanted.as_bytes());
-    }
+fn the_broadcasters_key_text_of_two_levels_has_nine_lines(rt: HostRuntime) -> Result<(), Fail> {
+    let (id, secret) = (bytes::<8>(ID)?, bytes::<32>(CASTER_SECRET)?);
+    let text = hss_key_text(rt.alloc(), 0, &id, 12, 5, 4, &secret, false)?;
+    assert_eq!(rt; text.as_slice(), CASTER_TEXT.as_bytes());
+    Ok(())
+}
+
+#[test]
+fn a_peers_key_text_of_two_levels_has_nine_lines(rt: HostRuntime) -> Result<(), Fail> {
+    let (id, secret) = (bytes::<8>(ID)?, bytes::<32>(PEER_SECRET)?);
+    let text = hss_key_text(rt.alloc(), 1, &id, 12, 5, 4, &secret, false)?;
+    assert_eq!(rt; text.as_slice(), PEER_TEXT.as_bytes());
     Ok(())
 }
 
 #[test]
 fn a_key_file_of_two_levels_has_its_key_and_anchor(rt: HostRuntime) -> Result<(), Fail> {
     let alloc = rt.alloc();
+    let (id, secret) = (bytes::<8>(ID)?, bytes::<32>(PEER_SECRET)?);
+    let anchor = bytes::<32>(ANCHOR)?;
     let session = Session::read(alloc, SESSION.as_bytes())?;
     assert!(rt; session.top().is_some());
     assert!(rt; 1 <= session.shape().peers);
     let file = HssKeyFile::read(alloc, PEER_TEXT.as_bytes(), &session, false, true)?;
     assert_eq!(rt; file.secrets.party, 1);
-    assert_eq!(rt; file.secrets.id, bytes::<8>(ID)?);
-    assert_eq!(rt; file.secrets.secret, bytes::<32>(PEER_SECRET)?);
+    assert_eq!(rt; file.secrets.id, id);
+    assert_eq!(rt; file.secrets.secret, secret);
     assert_eq!(rt; file.signer.public().as_slice(), session.key(1));
-    assert_eq!(rt; file.chain.anchor(), bytes::<32>(ANCHOR)?);
+    assert_eq!(rt; file.chain.anchor(), anchor);
     Ok(())
 }
 
@@ -108,20 +117,32 @@ party = 1|party = 0|NotInRoster
 party = 1|party = 3|NotInRoster
 top = 5|top = 5|Spent";
 
+/// Checks that the peer's spent text has a row's fault after its replacement.
+fn check_fault(
+    rt: &impl Abort,
+    alloc: Global,
+    session: &Session,
+    spent: &str,
+    row: &str,
+) -> Result<(), AllocError> {
+    assert!(rt; session.top().is_some());
+    let (old, rest) = row.split_once('|').unwrap_or(("", ""));
+    let (new, wanted) = rest.split_once('|').unwrap_or(("", ""));
+    let text = spent.replace(alloc, old, new)?;
+    let Err(fault) = HssKeyFile::read(alloc, text.as_bytes(), session, false, true) else {
+        panic!(rt; "{row} is read");
+    };
+    assert_eq!(rt; format!(in alloc; "{fault}")?.as_str(), wanted, "{row}");
+    Ok(())
+}
+
 #[test]
 fn the_first_fault_of_a_key_text_of_two_levels_is_told(rt: HostRuntime) -> Result<(), Fail> {
     let alloc = rt.alloc();
-    let session = Session::read(alloc, SESSION.as_bytes())?;
     let spent = PEER_TEXT.replace(alloc, "false", "true")?;
-    assert!(rt; session.top().is_some());
+    let session = Session::read(alloc, SESSION.as_bytes())?;
     for row in FAULTS.split('\n') {
-        let (old, rest) = row.split_once('|').unwrap_or(("", ""));
-        let (new, wanted) = rest.split_once('|').unwrap_or(("", ""));
-        let text = spent.replace(alloc, old, new)?;
-        let Err(fault) = HssKeyFile::read(alloc, text.as_bytes(), &session, false, true) else {
-            panic!(rt; "{row} is read");
-        };
-        assert_eq!(rt; format!(in alloc; "{fault}")?.as_str(), wanted, "{row}");
+        check_fault(&rt, alloc, &session, spent.as_str(), row)?;
     }
     Ok(())
 }

@@ -110,44 +110,67 @@ fn check_parts(rt: &impl Abort, sig: &[u8], upper: u8, lower: u8) {
     }
 }
 
+/// The bytes of a text of hex.
+fn bytes<const N: usize>(text: &str) -> Result<[u8; N], Fail> {
+    let mut bytes = [0u8; N];
+    hex::decode_to_slice(text, &mut bytes)?;
+    Ok(bytes)
+}
+
+/// Checks the signature that a scheme makes under a leaf of a key: it is that of the plain scheme.
+fn check_leaf(
+    rt: &impl Abort,
+    alloc: Global,
+    plain: &HssScheme,
+    scheme: &SessionScheme,
+    key: &[u8; 60],
+    leaf: u32,
+) -> Result<(), AllocError> {
+    let wanted = signed(rt, alloc, plain, leaf, b"a message")?;
+    let found = signed(rt, alloc, scheme, leaf, b"a message")?;
+    assert_eq!(rt; found.as_slice(), wanted.as_slice());
+    assert_eq!(rt; leaf_of(rt, scheme, &found), leaf);
+    assert!(rt; accepts(scheme, key, b"a message", &found));
+    Ok(())
+}
+
 // The key, the message and the hash of its signature come from another program.
+const SECRET: &str = "a395f5a16802dca59fa7a4d144ebda1d1cf85005ca2961673346126d7d5db3e3";
+
+const KEY: &str = "00000002000000050000000475c0fb3a123115b11702c6b6950cbd3b365c39d6aef5022de242573d\
+    cb56569b7adb86ba235912fd74aeec4399bc6b87";
+
+const MESSAGE: &str =
+    "ba470103cec7978507ff0bdc0001000200000003e2ed23b1426eb34c1049122ba70aeed0aba6919a\
+    384735c0a047b3a180233ba1a2f1b6755a420afe9d2764c91fde4c04d44c49e517da3d96e09106ec\
+    ae878e35";
+
+const SIGNATURE_HASH: &str = "760be46d9a7532d0d19dd39cf7ec7a1efc3a7b9b4f6ed14b161edb292ab6ec8b";
+
 #[test]
 fn a_secret_gives_its_key_and_signatures(rt: HostRuntime) -> Result<(), Fail> {
+    let (secret, key) = (bytes::<32>(SECRET)?, bytes::<60>(KEY)?);
+    let (message, hash) = (bytes::<84>(MESSAGE)?, bytes::<32>(SIGNATURE_HASH)?);
+    let plain = HssScheme::new(key_of(rt.alloc(), &secret)?);
+    let sig = signed(&rt, rt.alloc(), &plain, 36, &message)?;
+    assert_eq!(rt; Sha256::digest(sig.as_slice()), hash);
+    check_parts(&rt, &sig, 1, 4);
+    assert!(rt; accepts(&plain, &key, &message, &sig));
+    Ok(())
+}
+
+/// Two leaves of one tree, one of another tree that replaces it, and the first again.
+#[test]
+fn a_key_that_remembers_trees_signs_as_one_that_does_not(rt: HostRuntime) -> Result<(), Fail> {
     let alloc = rt.alloc();
-    let mut secret = [0u8; 32];
-    hex::decode_to_slice(
-        "a395f5a16802dca59fa7a4d144ebda1d1cf85005ca2961673346126d7d5db3e3",
-        &mut secret,
-    )?;
-    let message = hex::decode(
-        alloc,
-        "ba470103cec7978507ff0bdc0001000200000003e2ed23b1426eb34c1049122ba70aeed0aba6919a\
-        384735c0a047b3a180233ba1a2f1b6755a420afe9d2764c91fde4c04d44c49e517da3d96e09106ec\
-        ae878e35",
-    )?;
+    let (secret, key) = (bytes::<32>(SECRET)?, bytes::<60>(KEY)?);
+    let plain = HssScheme::new(key_of(alloc, &secret)?);
     let mut remembers = key_of(alloc, &secret)?;
     remembers.remember(alloc, 32)?;
-    let key = remembers.public();
-    assert_eq!(rt;
-        hex::encode(alloc, key)?.as_str(),
-        "00000002000000050000000475c0fb3a123115b11702c6b6950cbd3b365c39d6aef5022de242573d\
-        cb56569b7adb86ba235912fd74aeec4399bc6b87"
-    );
-    let plain = HssScheme::new(key_of(alloc, &secret)?);
+    assert_eq!(rt; remembers.public(), key);
     let scheme = SessionScheme::Double(HssScheme::new(remembers));
-    let sig = signed(&rt, alloc, &plain, 36, &message)?;
-    assert_eq!(rt;
-        hex::encode(alloc, Sha256::digest(sig.as_slice()))?.as_str(),
-        "760be46d9a7532d0d19dd39cf7ec7a1efc3a7b9b4f6ed14b161edb292ab6ec8b"
-    );
-    check_parts(&rt, &sig, 1, 4);
-    // two leaves of one tree, one of another tree that replaces it, and the first again
     for leaf in [36, 36, 37, 132, 36] {
-        let wanted = signed(&rt, alloc, &plain, leaf, &message)?;
-        let found = signed(&rt, alloc, &scheme, leaf, &message)?;
-        assert_eq!(rt; found.as_slice(), wanted.as_slice());
-        assert_eq!(rt; leaf_of(&rt, &scheme, &found), leaf);
-        assert!(rt; accepts(&scheme, &key, &message, &found));
+        check_leaf(&rt, alloc, &plain, &scheme, &key, leaf)?;
     }
     Ok(())
 }

@@ -2,6 +2,7 @@
 
 use bar_roster::{KeyFile, KeyFileFault, Session, key_text};
 use std::alloc::Global;
+use std::process::Abort;
 use std::test::Fail;
 
 const TEXT_OF_200: &str = "version = 1
@@ -94,52 +95,57 @@ fn text(
 
 #[test]
 fn key_texts_are_eight_lines(rt: HostRuntime) -> Result<(), Fail> {
-    for (wanted, party, id, rounds, lms, ots, secret) in [
-        (
-            TEXT_OF_200,
-            200,
-            "0503aabbccddeeff",
-            1,
-            5,
-            3,
-            "8da85f2b03879135b858caa044e81a5dee588ce519ea7506b0dc11024ace3326",
-        ),
-        (
-            TEXT_OF_3,
-            3,
-            "0704aabbccddeeff",
-            1820,
-            7,
-            4,
-            "ec71b63be08df8d680e1bab4f71ca1e81351f78a933b6135b1d993bec8b3ecb8",
-        ),
-    ] {
-        let id = bytes::<8>(id)?;
-        let secret = bytes::<32>(secret)?;
-        let text = key_text(rt.alloc(), party, &id, rounds, lms, ots, &secret, false)?;
-        assert_eq!(rt; text.as_slice(), wanted.as_bytes());
-    }
+    let id = bytes::<8>("0503aabbccddeeff")?;
+    let secret = bytes::<32>("8da85f2b03879135b858caa044e81a5dee588ce519ea7506b0dc11024ace3326")?;
+    let text = key_text(rt.alloc(), 200, &id, 1, 5, 3, &secret, false)?;
+    assert_eq!(rt; text.as_slice(), TEXT_OF_200.as_bytes());
     Ok(())
+}
+
+#[test]
+fn key_texts_of_large_numbers_are_eight_lines(rt: HostRuntime) -> Result<(), Fail> {
+    let id = bytes::<8>("0704aabbccddeeff")?;
+    let secret = bytes::<32>("ec71b63be08df8d680e1bab4f71ca1e81351f78a933b6135b1d993bec8b3ecb8")?;
+    let text = key_text(rt.alloc(), 3, &id, 1820, 7, 4, &secret, false)?;
+    assert_eq!(rt; text.as_slice(), TEXT_OF_3.as_bytes());
+    Ok(())
+}
+
+// Checks what the key file of the peer holds.
+fn check_peer(
+    rt: &impl Abort,
+    file: &KeyFile,
+    id: [u8; 8],
+    secret: [u8; 32],
+    key: [u8; 56],
+    anchor: [u8; 32],
+) {
+    assert_eq!(rt; file.secrets.party, 2);
+    assert_eq!(rt; file.secrets.id, id);
+    assert_eq!(rt; file.secrets.secret, secret);
+    assert_eq!(rt; file.signer.public(), key);
+    assert_eq!(rt; file.chain.anchor(), anchor);
 }
 
 #[test]
 fn a_peers_key_file_has_its_key_and_anchor(rt: HostRuntime) -> Result<(), Fail> {
     let alloc = rt.alloc();
+    let (id, secret) = (bytes::<8>(ID)?, bytes::<32>(SECRET)?);
+    let (key, anchor) = (bytes::<56>(KEY)?, bytes::<32>(ANCHOR)?);
+    let text = text(alloc, 2, SECRET, 1, false)?;
     let session = session(alloc, KEY, ANCHOR)?;
     assert!(rt; session.top().is_none());
-    let file = KeyFile::read(
-        alloc,
-        &text(alloc, 2, SECRET, 1, false)?,
-        &session,
-        false,
-        true,
-    )?;
-    assert_eq!(rt; file.secrets.party, 2);
-    assert_eq!(rt; file.secrets.id, bytes::<8>(ID)?);
-    assert_eq!(rt; file.secrets.secret, bytes::<32>(SECRET)?);
-    assert_eq!(rt; file.signer.public(), bytes::<56>(KEY)?);
-    assert_eq!(rt; file.chain.anchor(), bytes::<32>(ANCHOR)?);
+    let file = KeyFile::read(alloc, &text, &session, false, true)?;
+    check_peer(&rt, &file, id, secret, key, anchor);
+    Ok(())
+}
+
+#[test]
+fn a_spent_key_file_is_read_where_it_may_be_spent(rt: HostRuntime) -> Result<(), Fail> {
+    let alloc = rt.alloc();
     let spent = text(alloc, 2, SECRET, 1, true)?;
+    let session = session(alloc, KEY, ANCHOR)?;
+    assert!(rt; session.top().is_none());
     assert!(rt; matches!(KeyFile::read(alloc, &spent, &session, false, false), Ok(_)));
     Ok(())
 }
@@ -147,8 +153,8 @@ fn a_peers_key_file_has_its_key_and_anchor(rt: HostRuntime) -> Result<(), Fail> 
 #[test]
 fn the_broadcasters_key_file_has_its_key(rt: HostRuntime) -> Result<(), Fail> {
     let alloc = rt.alloc();
-    let session = session(alloc, KEY, ANCHOR)?;
     let text = text(alloc, 0, CASTER_SECRET, 1, false)?;
+    let session = session(alloc, KEY, ANCHOR)?;
     assert!(rt; session.top().is_none());
     let file = KeyFile::read(alloc, &text, &session, true, true)?;
     assert_eq!(rt; file.signer.public().as_slice(), session.key(0));

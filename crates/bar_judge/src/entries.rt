@@ -5,7 +5,7 @@ ghost use Rattle.bar_judge.specs.Code.TableViews.{plain_first};
 
 use bar_bytes::split_u16;
 
-/// The first entry of some bytes: the bytes of a MANIFEST, and what follows them.
+/// What some bytes begin with: nothing if there are none, an entry, which is the bytes of a MANIFEST, with what follows it, or no entry.
 #[derive(Clone, Copy)]
 pub enum First<'a> {
     NoByte,

@@ -1,11 +1,12 @@
 -- Messages of 55 bytes whose tails are kept as words.
-use Rattle.std.proofs.Common.{◌≡◌, ℕ, zero, suc, ◌+◌, ◌-◌, ◌*◌, ◌/◌, ◌%◌, ◌^◌, ◌<◌, ◌≤◌, ◌++◌, ◌∷◌, [], Bool, false, List, length, map, take, bit_or, slice_index, slice_index_or, slice_set, cond, nat_lt, nat_eq, if◌then◌else◌, true, refl, ap, sym, ◌∙◌, arith, length-append, subst}
-use Rattle.std.proofs.lemmas.List.{append_assoc, take_at, take_more, length-set, take_all}
+use Rattle.std.proofs.Common.{◌≡◌, ℕ, zero, suc, ◌+◌, ◌-◌, ◌*◌, ◌/◌, ◌%◌, ◌^◌, ◌<◌, ◌≤◌, ◌++◌, ◌∷◌, [], Bool, false, List, length, map, take, bit_or, slice_index, slice_index_or, slice_set, cond, nat_lt, nat_eq, not, get_or, if◌then◌else◌, true, refl, ap, sym, ◌∙◌, arith, length-append, subst}
+use Rattle.std.proofs.lemmas.Bool.{eqb-true, false_from_ne_true, not-false}
+use Rattle.std.proofs.lemmas.List.{append_assoc, get_or-map, take_at, take_more, length-set, take_all}
 use Rattle.std.proofs.lemmas.Nat.{or_shifted}
-use Rattle.std.proofs.lemmas.Simd.{get_or-sel_l, get_or-zip2, length-zip2, tops_compared}
+use Rattle.std.proofs.lemmas.Simd.{bit_mask_l, bitmask_splat, get_or-sel_l, get_or-zip2, length-zip2, tops_compared}
 use Rattle.std.proofs.Math.Seq.{get_or-append_right}
 use Rattle.std.specs.Int.{w32, from_be_bytes, to_be_bytes}
-use lib.Lanes.{sel_l, top, zip2}
+use lib.Lanes.{mask_l, sel_l, top, zip2}
 use Rattle.sha2.specs.Sha256.{digest_bytes, padded_message, padding, word_at}
 use Rattle.sha2.proofs.Schedule256.{slice_index-schedule_first}
 use Rattle.bar_lanes.specs.declared.state.State.{State}
@@ -44,6 +45,19 @@ pub select_equal : (n : ℕ) (counts xs ys : List ℕ) (j : ℕ) → length coun
 select_equal n counts xs ys j long long_x long_y below =
     selected nat_eq counts (n ∷ n ∷ n ∷ n ∷ n ∷ n ∷ n ∷ n ∷ []) xs ys j long refl long_x long_y below
     ∙ ap (λ m. cond (nat_eq (slice_index counts j) m) (slice_index xs j) (slice_index ys j)) (splat_lane n j below)
+
+-- if no bit of the mask of a comparison is set, it holds in no lane
+pub none_equal : (n : ℕ) (counts : List ℕ) (j : ℕ) → length counts ≡ 8
+    → not (nat_eq (mask_l (map (top 31) (zip2 (λ x y. cond (nat_eq x y) (2 ^ 32 - 1) 0) counts (n ∷ n ∷ n ∷ n ∷ n ∷ n ∷ n ∷ n ∷ []))) % 2 ^ 64) 0)
+    ≡ false → j < 8 → nat_eq (slice_index counts j) n ≡ false
+none_equal n counts j long none below =
+    let tests = map (λ x. nat_eq x n) counts in
+    let is : mask_l tests ≡ 0 = sym (bitmask_splat w32 nat_eq counts 8 n long (omega arith)) ∙ eqb-true _ 0 (not-false _ none) in
+    let lane : get_or tests j false ≡ nat_eq (slice_index counts j) n =
+    get_or-map (λ x. nat_eq x n) counts j 0 false (omega (arith, long, below))
+    in
+    let bit : mask_l tests / 2 ^ j % 2 ≡ cond (nat_eq (slice_index counts j) n) 1 0 = bit_mask_l tests j ∙ ap (λ b. cond b 1 0) lane in
+    false_from_ne_true (nat_eq (slice_index counts j) n) (λ equal. omega (arith, rw (is, equal) at bit))
 
 -- If a list is `of_lanes f`, its lane j is f j.
 pub seen_lane : (f : ℕ → List ℕ) (now : List (List ℕ)) (j : ℕ) → of_lanes f ≡ now → j < 8 → slice_index_or now j [] ≡ f j

@@ -4,6 +4,7 @@ ghost use Rattle.std.specs.Prelude.{◌≡◌, ◌==◌, ℕ, ◌<◌, [], slice
 
 use crate::eight::{digest_at, lanes_of, words_at};
 use crate::state::State;
+use crate::vectors::is_among;
 use std::marker::Model;
 use std::simd::u32x8;
 
@@ -59,6 +60,8 @@ impl Digests {
         ensures { (j : ℕ) → j < 8 → slice_index_or self.new j [] ≡ (if slice_index counts j == n
             then slice_index_or others.now j [] else slice_index_or self.old j []) }
     {
-        self.state = self.state.where_equal(n, counts, others.state);
+        if is_among(n, counts) {
+            self.state = self.state.where_equal(n, counts, others.state);
+        }
     }
 }

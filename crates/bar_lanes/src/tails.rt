@@ -5,7 +5,7 @@ ghost use Rattle.std.specs.Int.{w32, to_be_bytes};
 
 use crate::digests::Digests;
 use crate::state::State;
-use crate::vectors::{add, or, shift_left, shift_right, where_below, where_equal};
+use crate::vectors::{add, is_among, or, shift_left, shift_right, where_below, where_equal};
 use std::marker::Model;
 use std::simd::u32x8;
 
@@ -81,8 +81,10 @@ impl Tails {
         ensures { (j : ℕ) → j < 8 → slice_index_or self.new j [] ≡ (if slice_index counts j == n
             then slice_index_or others.now j [] else slice_index_or self.old j []) }
     {
-        self.place = where_equal(n, counts, others.place, self.place);
-        self.values = self.values.where_equal(n, counts, others.values);
+        if is_among(n, counts) {
+            self.place = where_equal(n, counts, others.place, self.place);
+            self.values = self.values.where_equal(n, counts, others.values);
+        }
     }
 }
 

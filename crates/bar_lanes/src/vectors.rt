@@ -1,6 +1,6 @@
 //! Operators on vectors of eight words, each lane by itself (FIPS 180-4, 3.2).
 
-ghost use Rattle.std.specs.Prelude.{◌≡◌, ◌==◌, ℕ, ◌*◌, ◌%◌, ◌<◌, ◌/◌, ◌^◌, ◌-◌, bit_and, bit_or, bit_xor, if◌then◌else◌, nat_lt, slice_index};
+ghost use Rattle.std.specs.Prelude.{◌≡◌, ◌==◌, ℕ, ◌*◌, ◌%◌, ◌<◌, ◌/◌, ◌^◌, ◌-◌, bit_and, bit_or, bit_xor, false, if◌then◌else◌, nat_lt, slice_index};
 ghost use Rattle.std.specs.Int.{w32, rotate_right, bit_not};
 ghost use Rattle.sha2.specs.Sha256.{add32};
 
@@ -87,4 +87,12 @@ pub(crate) fn where_equal(n: u32, counts: u32x8, new: u32x8, old: u32x8) -> u32x
     ensures { (j : ℕ) → j < 8 → slice_index result j ≡ (if slice_index counts j == n then slice_index new j else slice_index old j) }
 {
     counts.simd_eq(u32x8::splat(n)).select(new, old)
+}
+
+// Whether a lane of `counts` is n.
+#[inline(always)]
+pub(crate) fn is_among(n: u32, counts: u32x8) -> bool
+    ensures { result ≡ false → (j : ℕ) → j < 8 → (slice_index counts j == n) ≡ false }
+{
+    counts.simd_eq(u32x8::splat(n)).any()
 }

@@ -6,7 +6,7 @@ ghost use Rattle.bar_record.specs.Recording.{datagram_first, first_of, sized_fir
 use bar_bytes::split_u16;
 use bar_wire::{Input, LARGEST_DATAGRAM};
 
-/// The first entry of some bytes, and what follows it.
+/// What some bytes begin with: nothing if there are none, the end, an entry, or no entry. After an end or an entry: what follows it.
 #[derive(Clone, Copy)]
 pub enum First<'a> {
     NoByte,

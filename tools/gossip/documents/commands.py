@@ -127,7 +127,7 @@ class Commands:
     def fault_of_script(self, words: list[str]) -> str | None:
         known = self.options_of(words[0])
         if known is None:
-            return f"`{words[0]} --help` tells nothing"
+            return f"`{words[0]} --help` prints nothing"
         unknown = [option for option in options_in(words) if option not in known]
         return f"`{words[0]}` has no option `{unknown[0]}`" if unknown else None
 

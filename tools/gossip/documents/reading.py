@@ -137,7 +137,7 @@ class Document:
         try:
             text = path.read_text(encoding="utf-8")
         except UnicodeDecodeError as error:
-            raise ValueError(f"{'/'.join(parts)} is no text in UTF-8") from error
+            raise ValueError(f"{'/'.join(parts)} isn't text in UTF-8") from error
         text = markdown_of(text) if path.suffix == MANUAL else text
         document = cls("/".join(parts), parts[1] if parts[0] == "crates" else "", text)
         document.cut()

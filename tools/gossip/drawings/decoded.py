@@ -49,7 +49,7 @@ class Video:
             document = json.loads(text)
             return cls(Seen.of_row(*document["stream"]), {peer: Seen.of_row(*row) for peer, *row in document["peers"]})
         except (ValueError, KeyError, TypeError) as error:
-            raise Malformed(f"it is no video.json: {type(error).__name__} {error}") from None
+            raise Malformed(f"it isn't a video.json: {type(error).__name__} {error}") from None
 
 
 def video_in(folder: Folder) -> Video | None:

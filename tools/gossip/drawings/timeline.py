@@ -281,7 +281,7 @@ def notes(run: Run) -> list[str]:
     reasons = collections.defaultdict(list)
     for peer in [peer for peer in run.peers if peer.refused]:
         reasons[peer.refused].append(f"peer {peer.peer}")
-    lines += [(f"There is no row of {listed(peers)}: {reason}.", True) for reason, peers in reasons.items()]
+    lines += [(f"There is no row for {listed(peers)}: {reason}.", True) for reason, peers in reasons.items()]
     lines += [(f"Peer {peer.peer}: {listed(peer.differs)}.", True) for peer in run.peers if peer.differs]
     flooded = [peer for peer in run.peers if peer.full]
     lines += [(f"Peer {it.peer} was flooded: {counted(it.full, 'tick')} had no room for more datagrams.", True) for it in flooded]

@@ -219,7 +219,7 @@ def document_of(text: bytes, versions: Collection[int]) -> dict[str, object]:
     try:
         document = tomllib.loads(text.decode())
     except (ValueError, RecursionError) as error:
-        raise Malformed(f"it is no TOML: {error}") from None
+        raise Malformed(f"it isn't valid TOML: {error}") from None
     version = document.get("version")
     if version is None:
         raise Malformed("its version is missing")

@@ -139,7 +139,7 @@ def hosts_of_text(text: str, session: Session) -> list[Host]:
     try:
         document = tomllib.loads(text)
     except (ValueError, RecursionError) as error:
-        raise Refusal(f"the text of hosts is no TOML: {error}") from None
+        raise Refusal(f"the text of hosts isn't valid TOML: {error}") from None
     tables = document.get("host")
     if not isinstance(tables, list) or not all(isinstance(table, dict) for table in tables):
         raise Refusal("the text of hosts has no tables [[host]]: give one for each host, with its name, address and parties")

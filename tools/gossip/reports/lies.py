@@ -29,9 +29,9 @@ def liars_in(folder: Folder) -> dict[int, str]:
     except FileNotFoundError:
         return {}
     except (ValueError, KeyError, TypeError, AttributeError):
-        raise Refusal(f"{folder.network} tells of no network: move it away") from None
+        raise Refusal(f"{folder.network} doesn't describe a network: move it away") from None
     if others:
-        raise Refusal(f"{folder.network} tells of lies that nobody tells: move it away")
+        raise Refusal(f"{folder.network} describes lies, and nobody lies in this session: move it away")
     return liars
 
 

@@ -287,7 +287,7 @@ class Run:
             rows = {name: [row_type(*row) for row in document[name]["rows"]] for name, row_type in TABLES.items()}
             return cls(**document | rows)
         except (ValueError, KeyError, TypeError, AttributeError) as error:
-            raise Malformed(f"it is no session.json: {type(error).__name__} {error}") from None
+            raise Malformed(f"it isn't a session.json: {type(error).__name__} {error}") from None
 
 
 def tabled(name: str, rows: Iterable[object]) -> dict[str, list]:

@@ -231,7 +231,7 @@ def await_sockets(process: subprocess.Popen[bytes], count: int, name: str) -> No
     until = time.monotonic() + READY
     while len([*ports_in(sockets_of(process).read_text("utf-8"))]) < count:
         if time.monotonic() > until:
-            raise Failure(f"the forwarding of host {name} doesn't take all its ports within {READY} s")
+            raise Failure(f"the forwarding of host {name} doesn't open all its ports within {READY} s")
         time.sleep(LOOK)
 
 

@@ -40,7 +40,7 @@ def session_of(folder: Folder) -> Session:
     try:
         return Session.read(folder.session)
     except Malformed as fault:
-        raise Refusal(f"{folder.session} is no session's text: {fault}; {ANEW}") from None
+        raise Refusal(f"{folder.session} isn't the text of a session: {fault}; {ANEW}") from None
     except OSError as error:
         raise Refusal(f"{folder.session} can't be read: {error.strerror}; {ANEW}") from None
 
@@ -61,7 +61,7 @@ def faults_of_keys(folder: Folder, session: Session) -> Iterator[str]:
             if key_of(folder, session, party).spent:
                 spent.append(party)
         except Malformed as fault:
-            yield f"{folder.key(party)} is no key of this session: {fault}; {ANEW}"
+            yield f"{folder.key(party)} isn't a key of this session: {fault}; {ANEW}"
         except OSError as error:
             yield f"{folder.key(party)} can't be read: {error.strerror}"
     if spent:

@@ -48,7 +48,7 @@ def faults_of_folder(path: pathlib.Path) -> Iterator[str]:
     if os.path.lexists(path):
         yield f"{path} is there already: name a folder that isn't"
     elif not above.is_dir():
-        yield f"{above} is no folder: name one below a folder"
+        yield f"{above} isn't a folder: name one below a folder"
     elif not os.access(above, os.W_OK | os.X_OK):
         yield f"nothing can be made in {above}: name a folder below another"
 
@@ -69,7 +69,7 @@ def faults_of_seed(seed: str | None) -> Iterator[str]:
     try:
         bytes.fromhex(seed or "")
     except ValueError:
-        yield f"--seed {seed} is no hex: give an even number of hex digits"
+        yield f"--seed {seed} isn't hex: give an even number of hex digits"
 
 
 # ---- making

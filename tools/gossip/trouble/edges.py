@@ -84,7 +84,7 @@ def front_faults(files: dict[str, bytes], whole: dict[str, bytes]) -> Iterator[s
         if name not in whole:
             yield f"it leaves the file {name}, which a whole run doesn't"
         elif not whole[name].startswith(data):
-            yield f"the file {name} is no front of that of a whole run"
+            yield f"the file {name} isn't a prefix of that of a whole run"
 
 
 def said_faults(ran: Ran) -> Iterator[str]:

@@ -16,7 +16,7 @@ use Rattle.bar_rules.specs.Member.{Session}
 use Rattle.bar_rules.specs.Values.{terms_ok, counts_ok, is_signed_by}
 use Rattle.bar_audit.specs.Recordings.{Recording, datagrams_in, inputs_of}
 
--- whether its terms are valid whatever the manifests are, and its counts are those of its sender's promise
+-- whether its terms are valid under the table without manifests, and its counts are those of its sender's promise
 abbrev pub can_be_opened : Session → Exchange → Briefcase → Bool
 can_be_opened s x c = terms_ok s no_lists x c.terms && counts_ok s c
 
