@@ -31,7 +31,7 @@ class Kept(RoomCase):
 class Programs(unittest.TestCase):
     def test_each_is_a_crate(self):
         crates = (ROOT / "crates.txt").read_text("utf-8")
-        for program in (builds.PARTY, builds.IN_MEMORY, builds.FUZZ):
+        for program in (builds.PARTY, builds.FUZZ):
             self.assertRegex(crates, rf"(?m)^{program.crate}: ")
             self.assertTrue((ROOT / "crates" / program.crate / "src/main.rt").is_file())
 

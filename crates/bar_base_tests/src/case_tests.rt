@@ -10,6 +10,7 @@ use bar_terms::{Table, terms_ok};
 use bar_window::{Blocks, Exchange, Role, Terms, UpdateId, XKind};
 use sha2::{Digest, Sha256};
 use std::alloc::{AllocError, Global};
+use std::process::Abort;
 use std::test::Fail;
 
 const ID: [u8; 8] = [0x00, 0x11, 0x22, 0x33, 0x44, 0x55, 0x66, 0x77];
@@ -108,6 +109,11 @@ fn opened(
     (opening, blocks[0])
 }
 
+/// Checks what a key showed.
+fn check_opening(rt: &impl Abort, found: Opening, wanted: Opening) {
+    assert_eq!(rt; found, wanted);
+}
+
 /// Whether `part` occurs at an offset of some bytes.
 fn stands_at(bytes: &[u8], at: usize, part: &[u8]) -> bool {
     bytes.get(at..).unwrap_or(b"").starts_with(part)
@@ -154,11 +160,11 @@ fn junk_opens_with_its_own_key_alone(rt: HostRuntime) -> Result<(), Fail> {
     assert!(rt; stands_at(&cipher, 0, &[189, 171, 16, 215, 5, 128, 5, 0]));
     assert!(rt; stands_at(&cipher, 1280, &[176, 172, 206, 6, 208, 141, 58, 160]));
     let (good, _) = opened(PUSH, &terms, Role::Responder, &cipher, &KEY, &table);
-    assert_eq!(rt; good, Opening::Good(2));
+    check_opening(&rt, good, Opening::Good(2));
     let mut other = KEY;
     other[0] ^= 1;
     let (bad, _) = opened(PUSH, &terms, Role::Responder, &cipher, &other, &table);
-    assert_eq!(rt; bad, Opening::Bad { item: 0 });
+    check_opening(&rt, bad, Opening::Bad { item: 0 });
     Ok(())
 }
 
@@ -176,11 +182,11 @@ fn an_update_is_told_by_its_digest(rt: HostRuntime) -> Result<(), Fail> {
     assert_eq!(rt; cipher.len(), 1024);
     assert!(rt; stands_at(&cipher, 0, &[244, 2, 250, 17, 87, 170, 246, 65]));
     let (unknown, block) = opened(TRADE, &terms, Role::Initiator, &cipher, &KEY, &table);
-    assert_eq!(rt; unknown, Opening::Unknown { item: 0 });
+    check_opening(&rt, unknown, Opening::Unknown { item: 0 });
     assert!(rt; stands_at(&block, 0, &[0, 2, b'h', b'i', 0, 0]));
     let digest = Sha256::digest(hi().block.as_slice());
     assert!(rt; table.extend(3, &digest));
     let (good, _) = opened(TRADE, &terms, Role::Initiator, &cipher, &KEY, &table);
-    assert_eq!(rt; good, Opening::Good(1));
+    check_opening(&rt, good, Opening::Good(1));
     Ok(())
 }

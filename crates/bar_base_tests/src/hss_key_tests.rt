@@ -1,9 +1,9 @@
 //! Tests of key texts and key files of two levels. The session, keys and anchors were made by an independent program.
 
+use crate::hex_bytes::bytes;
 use bar_hss::{HssKeyFile, hss_key_text};
 use bar_roster::Session;
 use bar_seal::Scheme;
-use std::alloc::{AllocError, Global};
 use std::process::Abort;
 use std::test::Fail;
 
@@ -60,12 +60,6 @@ const PEER_SECRET: &str = "a395f5a16802dca59fa7a4d144ebda1d1cf85005ca29616733461
 
 const ANCHOR: &str = "18ca5046f09339244042130a73974747e1a473cde04b55e074cd6ac499e87f3b";
 
-fn bytes<const N: usize>(text: &str) -> Result<[u8; N], Fail> {
-    let mut bytes = [0u8; N];
-    hex::decode_to_slice(text, &mut bytes)?;
-    Ok(bytes)
-}
-
 #[test]
 fn the_broadcasters_key_text_of_two_levels_has_nine_lines(rt: HostRuntime) -> Result<(), Fail> {
     let (id, secret) = (bytes::<8>(ID)?, bytes::<32>(CASTER_SECRET)?);
@@ -74,75 +68,23 @@ fn the_broadcasters_key_text_of_two_levels_has_nine_lines(rt: HostRuntime) -> Re
     Ok(())
 }
 
-#[test]
-fn a_peers_key_text_of_two_levels_has_nine_lines(rt: HostRuntime) -> Result<(), Fail> {
+/// Checks what the key file of the peer holds.
+fn check_file(rt: &impl Abort, file: &HssKeyFile, session: &Session) -> Result<(), Fail> {
     let (id, secret) = (bytes::<8>(ID)?, bytes::<32>(PEER_SECRET)?);
-    let text = hss_key_text(rt.alloc(), 1, &id, 12, 5, 4, &secret, false)?;
-    assert_eq!(rt; text.as_slice(), PEER_TEXT.as_bytes());
+    let secrets = &file.secrets;
+    assert!(rt; secrets.party == 1 && secrets.id == id && secrets.secret == secret);
+    assert!(rt; file.chain.anchor() == bytes::<32>(ANCHOR)?);
+    let peers = session.shape().peers;
+    assert!(rt; 1 <= peers);
+    assert!(rt; file.signer.public().as_slice() == session.key(1));
     Ok(())
 }
 
 #[test]
 fn a_key_file_of_two_levels_has_its_key_and_anchor(rt: HostRuntime) -> Result<(), Fail> {
     let alloc = rt.alloc();
-    let (id, secret) = (bytes::<8>(ID)?, bytes::<32>(PEER_SECRET)?);
-    let anchor = bytes::<32>(ANCHOR)?;
     let session = Session::read(alloc, SESSION.as_bytes())?;
     assert!(rt; session.top().is_some());
-    assert!(rt; 1 <= session.shape().peers);
     let file = HssKeyFile::read(alloc, PEER_TEXT.as_bytes(), &session, false, true)?;
-    assert_eq!(rt; file.secrets.party, 1);
-    assert_eq!(rt; file.secrets.id, id);
-    assert_eq!(rt; file.secrets.secret, secret);
-    assert_eq!(rt; file.signer.public().as_slice(), session.key(1));
-    assert_eq!(rt; file.chain.anchor(), anchor);
-    Ok(())
-}
-
-/// What is replaced in the peer's text, by what, and the first fault of the result. The text is spent, and a fresh one is asked for. The
-/// rows are worked by hand from docs/FORMATS.md. The faults in order: invalid TOML; a value missing or out of its range; one that the
-/// session doesn't have; a spent key.
-const FAULTS: &str = "spent = true|spent|NotToml
-top = 5||BadValue
-top = 5|top = 8|BadValue
-lms = 5|lms = 6|BadValue
-ots = 4|ots = 2|BadValue
-rounds = 12|rounds = 7201|BadValue
-rounds = 12|rounds = 7200|NotInRoster
-top = 5|top = 6|NotInRoster
-ots = 4|ots = 3|NotInRoster
-ec7978507ff0bdc|ec7978507ff0bdd|NotInRoster
-a395f5a1|a395f5a2|NotInRoster
-party = 1|party = 0|NotInRoster
-party = 1|party = 3|NotInRoster
-top = 5|top = 5|Spent";
-
-/// Checks that the peer's spent text has a row's fault after its replacement.
-fn check_fault(
-    rt: &impl Abort,
-    alloc: Global,
-    session: &Session,
-    spent: &str,
-    row: &str,
-) -> Result<(), AllocError> {
-    assert!(rt; session.top().is_some());
-    let (old, rest) = row.split_once('|').unwrap_or(("", ""));
-    let (new, wanted) = rest.split_once('|').unwrap_or(("", ""));
-    let text = spent.replace(alloc, old, new)?;
-    let Err(fault) = HssKeyFile::read(alloc, text.as_bytes(), session, false, true) else {
-        panic!(rt; "{row} is read");
-    };
-    assert_eq!(rt; format!(in alloc; "{fault}")?.as_str(), wanted, "{row}");
-    Ok(())
-}
-
-#[test]
-fn the_first_fault_of_a_key_text_of_two_levels_is_told(rt: HostRuntime) -> Result<(), Fail> {
-    let alloc = rt.alloc();
-    let spent = PEER_TEXT.replace(alloc, "false", "true")?;
-    let session = Session::read(alloc, SESSION.as_bytes())?;
-    for row in FAULTS.split('\n') {
-        check_fault(&rt, alloc, &session, spent.as_str(), row)?;
-    }
-    Ok(())
+    check_file(&rt, &file, &session)
 }

@@ -2,17 +2,14 @@
 
 mod vectors;
 
-ghost use Rattle.std.specs.Prelude.{◌≡◌, ◌<◌};
-
-use bar_bytes::Steps;
+use crate::hex_bytes::bytes;
+use crate::verifying::accepts;
 use bar_hss::{HssKey, HssScheme, HssVerifier, SessionScheme, SessionVerifier};
 use bar_lms::{Height, Ots, Params};
 use bar_seal::{Scheme, Verifier};
 use sha2::{Digest, Sha256};
 use std::alloc::{AllocError, Global};
-use std::marker::Brand;
 use std::process::Abort;
-use std::sync::ledger::{Blank, Ledger};
 use std::test::Fail;
 use vectors::OF_WIDTH_8;
 
@@ -23,25 +20,6 @@ const LOW: Params = Params {
 
 const ID: [u8; 8] = [0xce, 0xc7, 0x97, 0x85, 0x07, 0xff, 0x0b, 0xdc];
 
-fn is_counted<V: Verifier, L: Ledger>(
-    verifier: &V,
-    key: &[u8],
-    message: &[u8],
-    sig: &[u8],
-    blank: Blank,
-) -> bool
-    requires name { blank.name ≡ L.name }
-    requires parts { blank.parts ≡ L.parts }
-    requires some { 0 < L.parts }
-{
-    verifier.accepts(key, message, sig, &mut Steps::<L>::new(blank))
-}
-
-/// Whether a signature is accepted.
-fn accepts<V: Verifier>(verifier: &V, key: &[u8], message: &[u8], sig: &[u8]) -> bool {
-    is_counted::<V, Brand>(verifier, key, message, sig, Blank::new(1))
-}
-
 /// The leaf that a signature names.
 fn leaf_of<V: Verifier>(rt: &impl Abort, verifier: &V, sig: &[u8]) -> u32 {
     let len = verifier.sig_len();
@@ -49,23 +27,38 @@ fn leaf_of<V: Verifier>(rt: &impl Abort, verifier: &V, sig: &[u8]) -> u32 {
     verifier.leaf_in(sig)
 }
 
+/// Checks that a signature isn't accepted if a bit of this byte is changed.
+fn check_changed<V: Verifier>(
+    rt: &impl Abort,
+    verifier: &V,
+    key: &[u8],
+    message: &[u8],
+    sig: &mut [u8],
+    place: usize,
+) {
+    assert!(rt; place < sig.len());
+    sig[place] ^= 1;
+    assert!(rt; !accepts(verifier, key, message, sig), "{place}");
+    sig[place] ^= 1;
+}
+
+/// Bytes in each part of a signature: the number of keys; in both parts the leaf, the randomizer and the path; and the key between them.
+const PLACES: [usize; 9] = [3, 7, 12, 1_295, 1_300, 1_320, 1_355, 1_360, 2_643];
+
 #[test]
 fn others_signatures_are_accepted(rt: HostRuntime) -> Result<(), Fail> {
-    let alloc = rt.alloc();
     let vector = OF_WIDTH_8;
-    let key = hex::decode(alloc, vector.key)?;
-    let message = hex::decode(alloc, vector.message)?;
-    let mut sig = hex::decode(alloc, vector.signature)?;
+    let (key, message) = (
+        bytes::<60>(vector.key)?,
+        hex::decode(rt.alloc(), vector.message)?,
+    );
+    let mut sig = bytes::<2644>(vector.signature)?;
     let verifier = SessionVerifier::Double(HssVerifier::new(LOW, LOW));
     assert!(rt; accepts(&verifier, &key, &message, &sig));
     assert_eq!(rt; leaf_of(&rt, &verifier, &sig), vector.leaf);
     assert!(rt; !accepts(&verifier, &key, b"another message", &sig));
-    // the number of keys; in both parts the leaf, the randomizer and the path; and the key between the parts
-    for place in [3, 7, 12, 1_295, 1_300, 1_320, 1_355, 1_360, 2_643] {
-        assert!(rt; place < sig.len());
-        sig[place] ^= 1;
-        assert!(rt; !accepts(&verifier, &key, &message, &sig), "{place}");
-        sig[place] ^= 1;
+    for place in PLACES {
+        check_changed(&rt, &verifier, &key, &message, &mut sig, place);
     }
     Ok(())
 }
@@ -90,31 +83,32 @@ fn signed<S: Scheme>(
     Ok(sig)
 }
 
-/// Checks the offsets of the parts of a signature: how many keys are signed, the leaf and the types of the upper one, the types of the
-/// lower public key, and the leaf and the types of the lower one (RFC 8554, 6.2 and 5.4).
-fn check_parts(rt: &impl Abort, sig: &[u8], upper: u8, lower: u8) {
-    assert_eq!(rt; sig.len(), 2_644);
-    for (place, number) in [
-        (0, 1),
-        (4, upper),
-        (8, 4),
-        (1_132, 5),
-        (1_296, 5),
-        (1_300, 4),
-        (1_352, lower),
-        (1_356, 4),
-        (2_480, 5),
-    ] {
-        let part = sig.get(place..).unwrap_or(b"");
-        assert!(rt; part.starts_with(&[0, 0, 0, number]), "at {place}");
-    }
+/// Where numbers are in a signature, with those that are the same in each: how many keys are signed, the types of the upper signature, of
+/// the lower public key and of the lower signature (RFC 8554, 6.2 and 5.4).
+const NUMBERS: [(usize, u8); 7] = [
+    (0, 1),
+    (8, 4),
+    (1_132, 5),
+    (1_296, 5),
+    (1_300, 4),
+    (1_356, 4),
+    (2_480, 5),
+];
+
+/// Checks a number of four bytes in a signature.
+fn check_number(rt: &impl Abort, sig: &[u8], place: usize, number: u8) {
+    let part = sig.get(place..).unwrap_or(b"");
+    assert!(rt; part.starts_with(&[0, 0, 0, number]), "at {place}");
 }
 
-/// The bytes of a text of hex.
-fn bytes<const N: usize>(text: &str) -> Result<[u8; N], Fail> {
-    let mut bytes = [0u8; N];
-    hex::decode_to_slice(text, &mut bytes)?;
-    Ok(bytes)
+/// Checks the numbers in a signature, the upper and the lower leaf among them.
+fn check_parts(rt: &impl Abort, sig: &[u8], upper: u8, lower: u8) {
+    assert_eq!(rt; sig.len(), 2_644);
+    for (place, number) in NUMBERS {
+        check_number(rt, sig, place, number);
+    }
+    check_number(rt, sig, 4, upper);
+    check_number(rt, sig, 1_352, lower);
 }
 
 /// Checks the signature that a scheme makes under a leaf of a key: it is that of the plain scheme.

@@ -1,19 +1,11 @@
 //! Tests of key texts and key files, with values that an independent program made.
 
+use crate::hex_bytes::bytes;
 use bar_roster::{KeyFile, KeyFileFault, Session, key_text};
+use bar_seeds::Secrets;
 use std::alloc::Global;
 use std::process::Abort;
 use std::test::Fail;
-
-const TEXT_OF_200: &str = "version = 1
-id = \"0503aabbccddeeff\"
-party = 200
-rounds = 1
-lms = 5
-ots = 3
-secret = \"8da85f2b03879135b858caa044e81a5dee588ce519ea7506b0dc11024ace3326\"
-spent = false
-";
 
 const TEXT_OF_3: &str = "version = 1
 id = \"0704aabbccddeeff\"
@@ -67,12 +59,6 @@ fn session(alloc: Global, key: &str, anchor: &str) -> Result<Session, Fail> {
     Ok(Session::read(alloc, text.as_bytes())?)
 }
 
-fn bytes<const N: usize>(text: &str) -> Result<[u8; N], Fail> {
-    let mut bytes = [0u8; N];
-    hex::decode_to_slice(text, &mut bytes)?;
-    Ok(bytes)
-}
-
 // The text of a key of this session.
 fn text(
     alloc: Global,
@@ -95,15 +81,6 @@ fn text(
 
 #[test]
 fn key_texts_are_eight_lines(rt: HostRuntime) -> Result<(), Fail> {
-    let id = bytes::<8>("0503aabbccddeeff")?;
-    let secret = bytes::<32>("8da85f2b03879135b858caa044e81a5dee588ce519ea7506b0dc11024ace3326")?;
-    let text = key_text(rt.alloc(), 200, &id, 1, 5, 3, &secret, false)?;
-    assert_eq!(rt; text.as_slice(), TEXT_OF_200.as_bytes());
-    Ok(())
-}
-
-#[test]
-fn key_texts_of_large_numbers_are_eight_lines(rt: HostRuntime) -> Result<(), Fail> {
     let id = bytes::<8>("0704aabbccddeeff")?;
     let secret = bytes::<32>("ec71b63be08df8d680e1bab4f71ca1e81351f78a933b6135b1d993bec8b3ecb8")?;
     let text = key_text(rt.alloc(), 3, &id, 1820, 7, 4, &secret, false)?;
@@ -111,32 +88,24 @@ fn key_texts_of_large_numbers_are_eight_lines(rt: HostRuntime) -> Result<(), Fai
     Ok(())
 }
 
-// Checks what the key file of the peer holds.
-fn check_peer(
-    rt: &impl Abort,
-    file: &KeyFile,
-    id: [u8; 8],
-    secret: [u8; 32],
-    key: [u8; 56],
-    anchor: [u8; 32],
-) {
-    assert_eq!(rt; file.secrets.party, 2);
-    assert_eq!(rt; file.secrets.id, id);
-    assert_eq!(rt; file.secrets.secret, secret);
-    assert_eq!(rt; file.signer.public(), key);
-    assert_eq!(rt; file.chain.anchor(), anchor);
+// Checks whose key file this is, and its secret.
+fn check_secrets(rt: &impl Abort, secrets: &Secrets, secret: [u8; 32]) -> Result<(), Fail> {
+    let id = bytes::<8>(ID)?;
+    assert!(rt; secrets.party == 2 && secrets.id == id && secrets.secret == secret);
+    Ok(())
 }
 
 #[test]
 fn a_peers_key_file_has_its_key_and_anchor(rt: HostRuntime) -> Result<(), Fail> {
     let alloc = rt.alloc();
-    let (id, secret) = (bytes::<8>(ID)?, bytes::<32>(SECRET)?);
     let (key, anchor) = (bytes::<56>(KEY)?, bytes::<32>(ANCHOR)?);
+    let secret = bytes::<32>(SECRET)?;
     let text = text(alloc, 2, SECRET, 1, false)?;
     let session = session(alloc, KEY, ANCHOR)?;
     assert!(rt; session.top().is_none());
     let file = KeyFile::read(alloc, &text, &session, false, true)?;
-    check_peer(&rt, &file, id, secret, key, anchor);
+    check_secrets(&rt, &file.secrets, secret)?;
+    assert!(rt; file.signer.public() == key && file.chain.anchor() == anchor);
     Ok(())
 }
 

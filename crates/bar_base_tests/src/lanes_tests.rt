@@ -1,6 +1,7 @@
 //! Tests of hashes against another program, and of kernels against plain loops, for lengths around the numbers of lanes.
 
 use bar_lanes::{Digests, Heads, Tails, and_not, count, sha_eight, xor_into};
+use std::process::Abort;
 use std::simd::u32x8;
 
 // From Python's hashlib, of the messages below.
@@ -116,21 +117,22 @@ fn bytes_by(step: u8) -> [u8; MOST] {
     bytes
 }
 
+/// Checks that the second bytes are joined to the first in each place below a length. The others are as they were.
+fn check_joined(rt: &impl Abort, first: &[u8; MOST], second: &[u8; MOST], len: usize) {
+    assert!(rt; len <= MOST);
+    let mut found = *first;
+    xor_into(&mut found[..len], &second[..len]);
+    for k in 0..MOST {
+        let other = if k < len { second[k] } else { 0 };
+        assert!(rt; found[k] == first[k] ^ other, "byte {k} of {len}");
+    }
+}
+
 #[test]
 fn bytes_are_joined_as_by_a_loop(rt: HostRuntime) {
     let (first, second) = (bytes_by(3), bytes_by(7));
     for len in [0, 1, 7, 8, 9, 32, 63, 64, 65, MOST] {
-        assert!(rt; len <= MOST);
-        let mut found = first;
-        xor_into(&mut found[..len], &second[..len]);
-        for k in 0..MOST {
-            let wanted = if k < len {
-                first[k] ^ second[k]
-            } else {
-                first[k]
-            };
-            assert_eq!(rt; found[k], wanted, "byte {k} of {len}");
-        }
+        check_joined(&rt, &first, &second, len);
     }
 }
 
@@ -145,21 +147,40 @@ fn words_by(step: u64) -> [u64; 32] {
     words
 }
 
+/// Checks the words that the first has and the second doesn't, in each place below a length. The others are as they were.
+fn check_parted(rt: &impl Abort, first: &[u64; 32], second: &[u64; 32], len: usize) {
+    assert!(rt; len <= 32);
+    let mut found = [9; 32];
+    and_not(&first[..len], &second[..len], &mut found[..len]);
+    for k in 0..32 {
+        let wanted = if k < len { first[k] & !second[k] } else { 9 };
+        assert!(rt; found[k] == wanted, "word {k} of {len}");
+    }
+}
+
+/// How many bits the first words have.
+fn bits_of(words: &[u64; 32], len: usize) -> u64 {
+    let mut bits = 0u64;
+    for word in words.iter().take(len) {
+        bits = bits.saturating_add(u64::from(word.count_ones()));
+    }
+    bits
+}
+
+/// Checks how many bits the first words have.
+fn check_count(rt: &impl Abort, words: &[u64; 32], len: usize) {
+    assert!(rt; len <= 32);
+    assert!(rt;
+        u64::from(count(&words[..len])) == bits_of(words, len),
+        "of {len}"
+    );
+}
+
 #[test]
 fn words_are_parted_and_counted_as_by_a_loop(rt: HostRuntime) {
     let (first, second) = (words_by(3), words_by(7));
     for len in [0, 1, 3, 4, 5, 7, 8, 9, 32] {
-        assert!(rt; len <= 32);
-        let mut found = [9; 32];
-        and_not(&first[..len], &second[..len], &mut found[..len]);
-        let mut bits = 0u64;
-        for k in 0..32 {
-            let wanted = if k < len { first[k] & !second[k] } else { 9 };
-            assert_eq!(rt; found[k], wanted, "word {k} of {len}");
-            if k < len {
-                bits = bits.saturating_add(u64::from(found[k].count_ones()));
-            }
-        }
-        assert_eq!(rt; u64::from(count(&found[..len])), bits, "of {len}");
+        check_parted(&rt, &first, &second, len);
+        check_count(&rt, &first, len);
     }
 }

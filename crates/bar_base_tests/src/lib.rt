@@ -8,6 +8,8 @@ mod bytes_tests;
 #[cfg(test)]
 mod case_tests;
 #[cfg(test)]
+mod hex_bytes;
+#[cfg(test)]
 mod hss_key_tests;
 #[cfg(test)]
 mod hss_tests;
@@ -27,6 +29,8 @@ mod seeds_tests;
 mod session_tests;
 #[cfg(test)]
 mod terms_tests;
+#[cfg(test)]
+mod verifying;
 #[cfg(test)]
 mod window_tests;
 #[cfg(test)]

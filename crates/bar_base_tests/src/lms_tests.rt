@@ -4,6 +4,7 @@ mod vectors;
 
 ghost use Rattle.std.specs.Prelude.{◌≡◌, ◌<◌};
 
+use crate::hex_bytes::bytes;
 use bar_bytes::Steps;
 use bar_lms::{Height, Ots, Params, PublicKey, SecretKey, fill_tree, sign_tree, verify};
 use sha2::{Digest, Sha256};
@@ -33,15 +34,26 @@ fn accepts(key: &PublicKey, message: &[u8], sig: &[u8]) -> bool {
     is_counted::<Brand>(key, message, sig, Blank::new(1))
 }
 
+/// Checks that a signature isn't accepted if a bit of this byte is changed.
+fn check_changed(
+    rt: &impl Abort,
+    key: &PublicKey,
+    message: &[u8],
+    signature: &mut [u8],
+    place: usize,
+) {
+    assert!(rt; place < signature.len());
+    signature[place] ^= 1;
+    assert!(rt; !accepts(key, message, signature), "{place}");
+    signature[place] ^= 1;
+}
+
 /// Checks that a signature is accepted under its key, and isn't accepted if one of its bits is changed.
 fn check_signature(rt: &impl Abort, key: &PublicKey, message: &[u8], signature: &mut [u8]) {
     assert!(rt; accepts(key, message, signature));
     assert!(rt; !accepts(key, b"another message", signature));
     for place in [3, 7, 8, 40, 1000, 1100, 1291] {
-        assert!(rt; place < signature.len());
-        signature[place] ^= 1;
-        assert!(rt; !accepts(key, message, signature), "{place}");
-        signature[place] ^= 1;
+        check_changed(rt, key, message, signature, place);
     }
 }
 
@@ -65,13 +77,6 @@ fn others_signatures_of_width_8_are_accepted(rt: HostRuntime) -> Result<(), Fail
 #[test]
 fn others_signatures_of_width_4_are_accepted(rt: HostRuntime) -> Result<(), Fail> {
     check_vector(&rt, rt.alloc(), OF_WIDTH_4)
-}
-
-/// The bytes of a text of hex.
-fn bytes<const N: usize>(text: &str) -> Result<[u8; N], Fail> {
-    let mut bytes = [0u8; N];
-    hex::decode_to_slice(text, &mut bytes)?;
-    Ok(bytes)
 }
 
 /// Checks that the signature of a message is made byte for byte.

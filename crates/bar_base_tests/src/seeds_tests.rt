@@ -3,6 +3,7 @@
 ghost use Rattle.std.specs.Prelude.{◌≡◌, ◌<◌, ◌≤◌};
 ghost use Rattle.bar_session.specs.Points.{AreSeeds};
 
+use crate::hex_bytes::bytes;
 use bar_bytes::Steps;
 use bar_roster::Session;
 use bar_seeds::{Checkpoints, Secrets, SeedChain, commitment, partner, seed_ok};
@@ -65,23 +66,35 @@ fn is_seed(id: &[u8; 8], anchor: &[u8; 32], party: u16, round: u32, seed: &[u8; 
     is_seed_from::<Brand>(id, anchor, party, round, seed, Blank::new(1))
 }
 
+/// Checks that a seed of a round leads to the anchor, and isn't one of the round before or of the next party.
+fn check_seed(
+    rt: &impl Abort,
+    id: &[u8; 8],
+    anchor: &[u8; 32],
+    party: u16,
+    round: u32,
+    seed: &[u8; 32],
+) {
+    assert!(rt; is_seed(id, anchor, party, round, seed), "{round}");
+    assert!(rt;
+        !is_seed(id, anchor, party, round.saturating_sub(1), seed),
+        "{round}"
+    );
+    assert!(rt;
+        !is_seed(id, anchor, party.saturating_add(1), round, seed),
+        "{round}"
+    );
+}
+
 #[test]
 fn chains_meet_others_anchors(rt: HostRuntime) -> Result<(), Fail> {
-    for (id_text, party, rounds, secret_text, anchor_text) in ANCHORS {
-        let mut id = [0u8; 8];
-        hex::decode_to_slice(id_text, &mut id)?;
-        let mut secret = [0u8; 32];
-        hex::decode_to_slice(secret_text, &mut secret)?;
+    for (id, party, rounds, secret, wanted) in ANCHORS {
+        let (id, secret) = (bytes::<8>(id)?, bytes::<32>(secret)?);
         let chain = SeedChain::make(rt.alloc(), &id, party, rounds, &secret)?;
         let anchor = chain.anchor();
-        let text = hex::encode(rt.alloc(), &anchor)?;
-        assert_eq!(rt; text.as_str(), anchor_text);
-        for round in [1, rounds] {
-            let seed = chain.seed(round);
-            assert!(rt; is_seed(&id, &anchor, party, round, &seed), "{round}");
-            assert!(rt; !is_seed(&id, &anchor, party, round - 1, &seed), "{round}");
-            assert!(rt; !is_seed(&id, &anchor, party + 1, round, &seed), "{round}");
-        }
+        assert_eq!(rt; anchor, bytes::<32>(wanted)?);
+        check_seed(&rt, &id, &anchor, party, 1, &chain.seed(1));
+        check_seed(&rt, &id, &anchor, party, rounds, &chain.seed(rounds));
     }
     Ok(())
 }
@@ -135,45 +148,47 @@ fn is_known(session: &Session, points: &mut Checkpoints, round: u32, seed: &[u8;
     is_known_from::<Brand>(session, points, round, seed, Blank::new(1))
 }
 
+/// A row: a round, a seed, and whether it is that of the round.
+type Row = (u32, [u8; 32], bool);
+
 /// Checks for each row in order whether its seed is that of its round.
-fn check_seeds(
-    rt: &impl Abort,
-    session: &Session,
-    points: &mut Checkpoints,
-    rows: &[(u32, [u8; 32], bool)],
-)
+fn check_seeds(rt: &impl Abort, session: &Session, points: &mut Checkpoints, rows: &[Row])
     requires peers { 1 ≤ session.now.shape.peers }
     requires kept { AreSeeds session.now points.old }
 {
     for (round, seed, wanted) in rows {
-        assert_eq!(rt; is_known(session, points, *round, seed), *wanted, "{round}");
+        assert!(rt;
+            is_known(session, points, *round, seed) == *wanted,
+            "{round}"
+        );
     }
 }
 
-// Seeds in the order in which they arrive. A later one is tested from the last that was accepted, an earlier or wrong one from the anchor.
+/// Rows for the seeds of the rounds 5 to 7, in the order in which they arrive.
+fn rows_of([fifth, sixth, seventh]: [[u8; 32]; 3]) -> [Row; 7] {
+    let mut wrong = seventh;
+    wrong[0] ^= 1;
+    [
+        (5, fifth, true),
+        (7, seventh, true),
+        (7, seventh, true),
+        (7, wrong, false),
+        (6, seventh, false),
+        (6, sixth, true),
+        (8, seventh, false),
+    ]
+}
+
+// A later seed is tested from the last that was accepted, an earlier or wrong one from the anchor.
 #[test]
 fn seeds_are_known_in_any_order(rt: HostRuntime) -> Result<(), Fail> {
-    let (id_text, party, rounds, secret_text, _) = ANCHORS[1];
-    let mut id = [0u8; 8];
-    hex::decode_to_slice(id_text, &mut id)?;
-    let mut secret = [0u8; 32];
-    hex::decode_to_slice(secret_text, &mut secret)?;
-    let chain = SeedChain::make(rt.alloc(), &id, party, rounds, &secret)?;
+    let (id, _, _, secret, _) = ANCHORS[1];
+    let (id, secret) = (bytes::<8>(id)?, bytes::<32>(secret)?);
+    let chain = SeedChain::make(rt.alloc(), &id, 1, 10, &secret)?;
+    let rows = rows_of([chain.seed(5), chain.seed(6), chain.seed(7)]);
     let session = Session::read(rt.alloc(), SESSION.as_bytes())?;
     let mut points = session.checkpoints(rt.alloc())?;
     assert!(rt; session.shape().peers == 2);
-    assert!(rt; rounds == 10);
-    let mut wrong = chain.seed(7);
-    wrong[0] ^= 1;
-    let rows = [
-        (5, chain.seed(5), true),
-        (7, chain.seed(7), true),
-        (7, chain.seed(7), true),
-        (7, wrong, false),
-        (6, chain.seed(7), false),
-        (6, chain.seed(6), true),
-        (8, chain.seed(7), false),
-    ];
     check_seeds(&rt, &session, &mut points, &rows);
     Ok(())
 }
@@ -207,6 +222,14 @@ fn partners_are_as_the_seed_says(rt: HostRuntime) {
     }
 }
 
+/// An exchange of party 258.
+const PUSH: Exchange = Exchange {
+    round: 7,
+    kind: XKind::Push,
+    initiator: 258,
+    responder: 3,
+};
+
 #[test]
 fn a_secret_gives_nonces_and_keys(rt: HostRuntime) -> Result<(), Fail> {
     let secrets = Secrets {
@@ -214,28 +237,22 @@ fn a_secret_gives_nonces_and_keys(rt: HostRuntime) -> Result<(), Fail> {
         party: 258,
         secret: SECRET,
     };
-    let x = Exchange {
-        round: 7,
-        kind: XKind::Push,
-        initiator: 258,
-        responder: 3,
-    };
-    for (hash, wanted) in [
+    let rows = [
         (
-            secrets.nonce(x),
+            secrets.nonce(PUSH),
             "1eade7bdd3bd7a6090aa6df68b7062d74b81c7ccb548d1f4e66bf1c6292e2165",
         ),
         (
-            secrets.key(x, Role::Initiator),
+            secrets.key(PUSH, Role::Initiator),
             "764c5a86aa23fa3b96f00fa4992f7cba1449151dae00a8032e7a775a2da07c01",
         ),
         (
-            secrets.key(x, Role::Responder),
+            secrets.key(PUSH, Role::Responder),
             "3d69c0e969372a6e949d024ee9a4b28117090cf19cadf42ea51614f40ffb0939",
         ),
-    ] {
-        let text = hex::encode(rt.alloc(), &hash)?;
-        assert_eq!(rt; text.as_str(), wanted);
+    ];
+    for (hash, wanted) in rows {
+        assert_eq!(rt; hash, bytes::<32>(wanted)?);
     }
     Ok(())
 }
@@ -243,22 +260,13 @@ fn a_secret_gives_nonces_and_keys(rt: HostRuntime) -> Result<(), Fail> {
 // A history of updates (5, 1) and (7, 63), in a session with a life of three rounds.
 #[test]
 fn commitments_hash_the_history(rt: HostRuntime) -> Result<(), Fail> {
-    let x = Exchange {
-        round: 7,
-        kind: XKind::Push,
-        initiator: 258,
-        responder: 3,
-    };
+    let wanted = bytes::<32>("682bb42f13fbd1d7bf0dc4c96a85cdb78d8111cae29306eaae03e7f659515334")?;
     let mut history = Window::empty(7, 3, false);
     history.put(UpdateId { round: 5, index: 1 });
     history.put(UpdateId {
         round: 7,
         index: 63,
     });
-    let text = hex::encode(rt.alloc(), &commitment(&ID, x, &SECRET, &history, 3))?;
-    assert_eq!(rt;
-        text.as_str(),
-        "682bb42f13fbd1d7bf0dc4c96a85cdb78d8111cae29306eaae03e7f659515334"
-    );
+    assert_eq!(rt; commitment(&ID, PUSH, &SECRET, &history, 3), wanted);
     Ok(())
 }

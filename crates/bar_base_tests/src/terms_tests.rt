@@ -3,6 +3,7 @@ ghost use Rattle.std.specs.Prelude.{◌≡◌};
 use crate::windows::window_with;
 use bar_terms::{Item, Table, balanced_count, promise, push_answer, terms_ok};
 use bar_window::{Exchange, Role, Terms, UpdateId, XKind};
+use std::process::Abort;
 use std::test::Fail;
 
 fn update(round: u32, index: u8) -> UpdateId
@@ -43,16 +44,24 @@ fn balanced_terms_pay_as_much_on_both_sides(rt: HostRuntime) -> Result<(), Fail>
     Ok(())
 }
 
+/// Checks the answer of a responder that holds some updates: those that it wants, those that it gives, and how many pieces of junk.
+fn check_answer(
+    rt: &impl Abort,
+    held: &[(u32, u8)],
+    want: &[(u32, u8)],
+    give: &[(u32, u8)],
+    junk: u8,
+) {
+    let young = window_with(rt, &[(5, 0), (5, 1)]);
+    let aged = window_with(rt, &[(3, 1)]);
+    let answer = push_answer(&young, &aged, &window_with(rt, held), 4);
+    assert_eq!(rt; answer.want, window_with(rt, want));
+    assert_eq!(rt; answer.give, window_with(rt, give));
+    assert_eq!(rt; answer.junk, junk);
+}
+
 #[test]
 fn a_push_is_answered_with_what_is_held(rt: HostRuntime) {
-    let young = window_with(&rt, &[(5, 0), (5, 1)]);
-    let aged = window_with(&rt, &[(3, 1)]);
-    let holds_some = push_answer(&young, &aged, &window_with(&rt, &[(5, 1), (3, 1)]), 4);
-    assert_eq!(rt; holds_some.want, window_with(&rt, &[(5, 0)]));
-    assert_eq!(rt; holds_some.give, window_with(&rt, &[(3, 1)]));
-    assert_eq!(rt; holds_some.junk, 0);
-    let holds_none = push_answer(&young, &aged, &window_with(&rt, &[]), 4);
-    assert_eq!(rt; holds_none.want, young);
-    assert_eq!(rt; holds_none.give, window_with(&rt, &[]));
-    assert_eq!(rt; holds_none.junk, 2);
+    check_answer(&rt, &[(5, 1), (3, 1)], &[(5, 0)], &[(3, 1)], 0);
+    check_answer(&rt, &[], &[(5, 0), (5, 1)], &[], 2);
 }

@@ -1,5 +1,7 @@
-ghost use Rattle.std.specs.Prelude.{◌≡◌};
+ghost use Rattle.std.specs.Prelude.{◌≡◌, false};
+ghost use Rattle.bar_window.specs.Code.Window.{IsWindowOf};
 
+use crate::windows::window_with;
 use bar_window::{Exchange, UpdateId, Window, XKind};
 use std::process::Abort;
 
@@ -10,51 +12,66 @@ fn update(round: u32, index: u8) -> UpdateId
     UpdateId { round, index }
 }
 
-/// Some updates of the window of round 6, in a session with a life of four rounds.
-fn window_with(rt: &impl Abort, ids: &[UpdateId]) -> Window {
-    let mut window = Window::empty(6, 4, false);
-    for id in ids {
-        let row = id.round.saturating_sub(window.base);
-        assert!(rt; id.round >= window.base && row < u32::from(window.used) && id.index < 64);
-        window.put(*id);
-    }
-    window
-}
-
 fn first_words(window: &Window) -> [u64; 4] {
     let [a, b, c, d, ..] = window.words;
     [a, b, c, d]
 }
 
+/// The window of the first side.
+fn first(rt: &impl Abort) -> Window
+    ensures rounds { IsWindowOf 4 6 result }
+    ensures wide { result.wide ≡ false }
+{
+    window_with(rt, &[(5, 3), (3, 0), (5, 1), (3, 2)])
+}
+
+/// The window of the second side.
+fn second(rt: &impl Abort) -> Window
+    ensures rounds { IsWindowOf 4 6 result }
+    ensures wide { result.wide ≡ false }
+{
+    window_with(rt, &[(4, 7), (3, 2)])
+}
+
+/// Checks the words of a window of four rounds from round 3 on, and its size.
+fn check_window(rt: &impl Abort, window: &Window, words: [u64; 4], size: u32) {
+    assert_eq!(rt; (window.base, window.used), (3, 4));
+    assert_eq!(rt; first_words(window), words);
+    assert_eq!(rt; window.size(), size);
+}
+
 #[test]
 fn windows_are_sets(rt: HostRuntime) {
-    let ha = window_with(
-        &rt,
-        &[update(5, 3), update(3, 0), update(5, 1), update(3, 2)],
-    );
-    let hb = window_with(&rt, &[update(4, 7), update(3, 2)]);
-    assert!(rt; ha.base == hb.base && ha.used == hb.used && ha.wide == hb.wide);
-    let rows = [
-        (ha, [0x5, 0, 0xa, 0], 4),
-        (hb, [0x4, 0x80, 0, 0], 2),
-        (ha.minus(&hb), [0x1, 0, 0xa, 0], 3),
-        (hb.minus(&ha), [0, 0x80, 0, 0], 1),
-        (ha.both(&hb), [0x4, 0, 0, 0], 1),
-        (ha.first(3), [0x5, 0, 0x2, 0], 3),
-        (ha.first(9), [0x5, 0, 0xa, 0], 4),
-    ];
-    for (window, words, size) in rows {
-        assert_eq!(rt; (window.base, window.used), (3, 4));
-        assert_eq!(rt; first_words(&window), words);
-        assert_eq!(rt; window.size(), size);
-    }
-    let has = ha.has(update(3, 2)) & !ha.has(update(4, 7)) & !ha.has(update(7, 0));
-    let inside = ha.both(&hb).inside(&hb) & !ha.inside(&hb);
-    assert!(rt; has & inside & ha.lies_in(3, 5) & !ha.lies_in(4, 6));
-    let listed = ha.list();
+    let (ha, hb) = (first(&rt), second(&rt));
+    assert!(rt; ha.base == hb.base && ha.used == hb.used);
+    check_window(&rt, &ha, [0x5, 0, 0xa, 0], 4);
+    check_window(&rt, &hb, [0x4, 0x80, 0, 0], 2);
+    check_window(&rt, &ha.minus(&hb), [0x1, 0, 0xa, 0], 3);
+    check_window(&rt, &hb.minus(&ha), [0, 0x80, 0, 0], 1);
+    check_window(&rt, &ha.both(&hb), [0x4, 0, 0, 0], 1);
+    assert!(rt; ha.both(&hb).inside(&hb) & !ha.inside(&hb));
+}
+
+#[test]
+fn the_first_updates_of_a_window_are_those_of_the_first_rounds(rt: HostRuntime) {
+    let window = first(&rt);
+    check_window(&rt, &window.first(3), [0x5, 0, 0x2, 0], 3);
+    check_window(&rt, &window.first(9), [0x5, 0, 0xa, 0], 4);
+}
+
+#[test]
+fn a_window_has_the_updates_that_were_put_in(rt: HostRuntime) {
+    let window = first(&rt);
+    assert!(rt; window.has(update(3, 2)) & !window.has(update(4, 7)) & !window.has(update(7, 0)));
+    assert!(rt; window.lies_in(3, 5) & !window.lies_in(4, 6));
+}
+
+#[test]
+fn the_updates_of_a_window_are_listed_in_order(rt: HostRuntime) {
+    let listed = first(&rt).list();
     assert_eq!(rt; listed.len, 4);
     let ids = [update(3, 0), update(3, 2), update(5, 1), update(5, 3)];
-    assert_eq!(rt; &listed.ids[..4], ids.as_slice());
+    assert!(rt; listed.ids.starts_with(&ids));
 }
 
 #[test]
@@ -76,11 +93,21 @@ fn the_window_of_an_early_round_begins_with_round_one(rt: HostRuntime) {
     }
 }
 
+/// Checks some consecutive bytes.
+fn check_bytes(rt: &impl Abort, bytes: &[u8], from: usize, wanted: &[u8]) {
+    let part = bytes.get(from..).unwrap_or(b"");
+    assert!(rt; part.starts_with(wanted), "from {from}");
+}
+
 #[test]
 fn bytes_begin_with_the_first_round(rt: HostRuntime) {
-    let bytes = window_with(&rt, &[update(3, 0), update(3, 15), update(6, 63)]).bytes();
-    assert_eq!(rt; &bytes[..8], [0, 0, 0, 0, 0, 0, 0x80, 0x01].as_slice());
-    assert_eq!(rt; &bytes[24..32], [0x80, 0, 0, 0, 0, 0, 0, 0].as_slice());
+    let bytes = window_with(&rt, &[(3, 0), (3, 15), (6, 63)]).bytes();
+    check_bytes(&rt, &bytes, 0, &[0, 0, 0, 0, 0, 0, 0x80, 0x01]);
+    check_bytes(&rt, &bytes, 24, &[0x80, 0, 0, 0, 0, 0, 0, 0]);
+}
+
+#[test]
+fn the_bytes_of_an_exchange_have_its_kind_and_its_parties(rt: HostRuntime) {
     let exchange = Exchange {
         round: 6,
         kind: XKind::Push,
@@ -109,7 +136,7 @@ fn a_wide_window_has_two_words_for_each_round(rt: HostRuntime) {
 #[test]
 fn bytes_of_a_wide_window_have_the_second_word_after_the_first(rt: HostRuntime) {
     let bytes = wide_window().bytes();
-    assert_eq!(rt; &bytes[..8], [0; 8].as_slice());
-    assert_eq!(rt; &bytes[8..16], [0x80, 0, 0, 0, 0, 0, 0, 1].as_slice());
-    assert_eq!(rt; &bytes[16..64], [0; 48].as_slice());
+    check_bytes(&rt, &bytes, 0, &[0; 8]);
+    check_bytes(&rt, &bytes, 8, &[0x80, 0, 0, 0, 0, 0, 0, 1]);
+    check_bytes(&rt, &bytes, 16, &[0; 48]);
 }

@@ -254,8 +254,16 @@ pub fn try_recording(
 
 // ---- sessions
 
-/// The text of a session, made from its values.
-pub fn session_text(alloc: Global, session: &Session) -> Result<String, Stop> {
+/// The line of the type of the upper tree, if the keys have two levels.
+fn top_line(alloc: Global, session: &Session) -> Result<String, AllocError> {
+    match session.top() {
+        Some(top) => format!(in alloc; "top = {top}\n"),
+        None => Ok(String::new(alloc)),
+    }
+}
+
+/// The lines of a session's text before those of its peers.
+fn first_lines(alloc: Global, session: &Session) -> Result<String, AllocError> {
     let shape = session.shape();
     let params = session.params();
     let (version, life, per_round) = (shape.version, shape.life, shape.per_round);
@@ -264,23 +272,29 @@ pub fn session_text(alloc: Global, session: &Session) -> Result<String, Stop> {
     let (lms, ots, rounds) = (params.lms(), params.ots(), shape.rounds);
     let id = hex::encode(alloc, shape.id.as_slice())?;
     let key = hex::encode(alloc, session.key(0))?;
-    let mut text = format!(in alloc;
-        "version = {version}\nid = \"{id}\"\nrounds = {rounds}\nlife = {life}\ncap = {cap}\nper_round = {per_round}\n"
-    )?;
-    if let Some(top) = session.top() {
-        text.push_str(format!(in alloc; "top = {top}\n")?.as_str())?;
+    let top = top_line(alloc, session)?;
+    format!(in alloc;
+        "version = {version}\nid = \"{id}\"\nrounds = {rounds}\nlife = {life}\ncap = {cap}\nper_round = {per_round}\n\
+        {top}fanout = {fanout}\nport = {port}\ntick_ms = {tick_ms}\nlms = {lms}\nots = {ots}\nkey = \"{key}\"\n"
+    )
+}
+
+/// The lines of a peer in a session's text.
+fn peer_lines(alloc: Global, session: &Session, peer: u16) -> Result<String, Stop> {
+    let peers = session.shape().peers;
+    if peer < 1 || peer > peers {
+        return Err(Stop::Found("a session has no such peer"));
     }
-    text.push_str(format!(in alloc;
-        "fanout = {fanout}\nport = {port}\ntick_ms = {tick_ms}\nlms = {lms}\nots = {ots}\nkey = \"{key}\"\n"
-    )?.as_str())?;
-    for before in 0..shape.peers {
-        let peer = before + 1;
-        if peer < 1 || peer > shape.peers {
-            return Err(Stop::Found("a session has no such peer"));
-        }
-        let key = hex::encode(alloc, session.key(peer))?;
-        let anchor = hex::encode(alloc, session.anchor(peer).as_slice())?;
-        let lines = format!(in alloc; "[[peer]]\nkey = \"{key}\"\nanchor = \"{anchor}\"\n")?;
+    let key = hex::encode(alloc, session.key(peer))?;
+    let anchor = hex::encode(alloc, session.anchor(peer).as_slice())?;
+    Ok(format!(in alloc; "[[peer]]\nkey = \"{key}\"\nanchor = \"{anchor}\"\n")?)
+}
+
+/// The text of a session, made from its values.
+pub fn session_text(alloc: Global, session: &Session) -> Result<String, Stop> {
+    let mut text = first_lines(alloc, session)?;
+    for before in 0..session.shape().peers {
+        let lines = peer_lines(alloc, session, before + 1)?;
         text.push_str(lines.as_str())?;
     }
     Ok(text)

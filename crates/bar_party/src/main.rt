@@ -1,9 +1,12 @@
 //! Commands of `bar` over another link, or with lies in what a peer sends: `bar_party LINK LIE WORDS ..`. WORDS are a command line of
 //! `bar`, LINK is `udp` for the loopback network or `pipe` for a link over the standard streams, and LIE is `none` or the name of a lie.
-//! `bar` doesn't use it; tools/run-session and tools/simulate-session run it.
+//! `bar_party memory SESSION KEY STREAM RECORDING PARTY NUMBER ..` runs `peer` or `broadcaster` over files and a link in memory.
+//! `bar` doesn't use it. tools/run-session and tools/simulate-session run it, and with `memory` tools/check-nodes, which compares the two
+//! commands with expected values and their time with that of a replay, and tools/try-memory, which refuses memory to them.
 #![tactic(auto)]
 
 mod lies;
+mod memory;
 mod pipe;
 
 use bar_cli::bar_run;
@@ -18,7 +21,7 @@ use std::io::{BufReader, ErrorKind};
 use std::process::ExitCode;
 use std::{io, rt};
 
-/// The exit status if the arguments aren't valid, or if the program can't start.
+/// The exit status if the arguments or a file that they name aren't valid, or if the program can't start.
 const WORDS: u8 = 2;
 
 /// The argument after an option.
@@ -70,9 +73,9 @@ fn run_over<L: Link + Drop>(rt: &HostRuntime, words: &[String], link: L, liar: O
     )
 }
 
-/// Runs what the arguments ask for.
-fn run_words(rt: &HostRuntime, words: &[String]) -> io::Result<u8> {
-    let [link, lie, words @ ..] = words else {
+/// Runs a command over a link that the arguments name, maybe as a liar.
+fn run_linked(rt: &HostRuntime, link: &str, words: &[String]) -> io::Result<u8> {
+    let [lie, words @ ..] = words else {
         return Err(io::Error::from(ErrorKind::InvalidInput));
     };
     let liar = match lie.as_str() {
@@ -82,7 +85,7 @@ fn run_words(rt: &HostRuntime, words: &[String]) -> io::Result<u8> {
             None => return Err(io::Error::from(ErrorKind::InvalidInput)),
         },
     };
-    match link.as_str() {
+    match link {
         "udp" => Ok(run_over(rt, words, RealLink::new(rt), liar)),
         "pipe" => {
             let input = BufReader::new(rt.alloc(), rt.stdin())?;
@@ -91,6 +94,18 @@ fn run_words(rt: &HostRuntime, words: &[String]) -> io::Result<u8> {
         }
         _ => Err(io::Error::from(ErrorKind::InvalidInput)),
     }
+}
+
+/// Runs what the arguments ask for.
+fn run_words(rt: &HostRuntime, words: &[String]) -> io::Result<u8> {
+    let [link, words @ ..] = words else {
+        return Err(io::Error::from(ErrorKind::InvalidInput));
+    };
+    if link.as_str() == "memory" {
+        memory::run_and_show(rt, words, &mut rt.stdout())?;
+        return Ok(0);
+    }
+    run_linked(rt, link.as_str(), words)
 }
 
 fn main(rt: HostRuntime) -> ExitCode {
@@ -103,6 +118,6 @@ fn main(rt: HostRuntime) -> ExitCode {
         return ExitCode::from(*status);
     }
     let mut err = RealSink::new(Standard::Err(rt.stderr()));
-    let _ = err.write(b"bar_party: the words, the session or the key are refused\n");
+    let _ = err.write(b"bar_party: the words, or a file that they name, are refused\n");
     ExitCode::from(WORDS)
 }

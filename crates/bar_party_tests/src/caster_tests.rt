@@ -2,12 +2,13 @@
 
 pub mod casters;
 
+use crate::requests::request;
+use crate::sends::Sent;
 use bar_caster::Caster;
 use bar_hss::SessionScheme;
 use bar_samples::sessions::{ID, session, third_session};
-use bar_samples::signed::{scheme_of, signed};
-use bar_seal::LmsScheme;
-use casters::{Sent, caster_of, counts, tell, ticks};
+use bar_samples::signed::{add_entry, scheme_of};
+use casters::{caster_of, counts, tell, ticks};
 use std::alloc::{AllocError, Global};
 use std::process::Abort;
 use std::test::Fail;
@@ -19,8 +20,6 @@ fn front(kind: u8) -> [u8; 12] {
 }
 
 const MANIFEST: u8 = 1;
-
-const REQUEST: u8 = 3;
 
 const EVIDENCE: u8 = 11;
 
@@ -52,7 +51,7 @@ fn check_stream(
     session: &str,
     parts: &[(u8, usize)],
 ) -> Result<(), Fail> {
-    let mut caster = caster_of(rt, alloc, session, 1_023)?;
+    let mut caster = caster_of(alloc, session, 1_023)?;
     Ok(check_ticks(rt, alloc, &mut caster, parts)?)
 }
 
@@ -101,28 +100,22 @@ fn a_manifest_is_said_again_in_the_round_after_it(rt: HostRuntime) -> Result<(),
     check_stream(&rt, rt.alloc(), third_session(), &SLOTS_OF_3)
 }
 
-/// A signed REQUEST of round 6 from peer 1 to peer 2, with a seed of zeros and a commitment of 32 equal bytes.
-fn request(alloc: Global, scheme: &LmsScheme, commitment: u8) -> Result<Vec<u8>, AllocError> {
-    let mut message = front(REQUEST).to_vec(alloc)?;
-    message.extend_from_slice(&[0, 1, 0, 2, 0, 0, 0, 6])?;
-    message.extend_from_slice(&[0; 32])?;
-    message.extend_from_slice(&[commitment; 32])?;
-    signed(alloc, scheme, 0, &message)
-}
-
 /// The EVIDENCE of peer 2 with these datagrams.
 fn evidence(alloc: Global, datagrams: [&[u8]; 2]) -> Result<Vec<u8>, AllocError> {
     let mut bytes = front(EVIDENCE).to_vec(alloc)?;
     bytes.extend_from_slice(&[0, 2, 0, 0, 2])?;
     for datagram in datagrams {
-        let len = u16::try_from(datagram.len()).unwrap_or(0);
-        bytes.extend_from_slice(&len.to_be_bytes())?;
-        bytes.extend_from_slice(datagram)?;
+        add_entry(&mut bytes, datagram)?;
     }
     Ok(bytes)
 }
 
-/// Checks whom a broadcaster has evicted, and the evidence that it keeps against peer 1.
+/// Checks the evidence that a broadcaster keeps against peer 1.
+fn check_kept(rt: &impl Abort, caster: &Caster<SessionScheme>, kept: Option<&[u8]>) {
+    assert_eq!(rt; caster.evidence(1), kept);
+}
+
+/// Checks whom a broadcaster has evicted, and the evidence that it keeps.
 fn check_evicted(
     rt: &impl Abort,
     caster: &Caster<SessionScheme>,
@@ -130,7 +123,7 @@ fn check_evicted(
     kept: Option<&[u8]>,
 ) {
     assert_eq!(rt; caster.evicted(), evicted);
-    assert_eq!(rt; caster.evidence(1), kept);
+    check_kept(rt, caster, kept);
     assert!(rt; caster.evidence(2).is_none());
 }
 
@@ -145,6 +138,33 @@ fn evidence_of_two(alloc: Global) -> Result<[Vec<u8>; 2], Fail> {
     ])
 }
 
+/// Datagrams that are no evidence change nothing. `evidence` is taken in round 6.
+fn check_taken(
+    rt: &impl Abort,
+    alloc: Global,
+    caster: &mut Caster<SessionScheme>,
+    evidence: &[u8],
+) -> Result<(), AllocError> {
+    ticks(rt, alloc, caster, 48)?;
+    tell(rt, alloc, caster, b"")?;
+    tell(rt, alloc, caster, evidence.get(19..).unwrap_or(b""))?;
+    check_evicted(rt, caster, &[], None);
+    tell(rt, alloc, caster, evidence)
+}
+
+/// The next round announces an eviction once.
+fn check_announced(
+    rt: &impl Abort,
+    alloc: Global,
+    caster: &mut Caster<SessionScheme>,
+) -> Result<(), AllocError> {
+    let sends = ticks(rt, alloc, caster, 8)?;
+    check_counts(rt, &sends, MANIFEST, 1_473, [0, 2]);
+    check_counts(rt, &sends, EVICT, 1_475, [0, 1]);
+    assert_eq!(rt; sends.len(), 3);
+    Ok(())
+}
+
 /// Evidence that is taken in round 6 is announced at the first slot of round 7, once. Other datagrams change nothing.
 fn check_evidence(
     rt: &impl Abort,
@@ -153,24 +173,16 @@ fn check_evidence(
     evidence: &[Vec<u8>; 2],
 ) -> Result<(), AllocError> {
     let [first, second] = evidence;
-    ticks(rt, alloc, caster, 48)?;
-    tell(rt, alloc, caster, b"")?;
-    tell(rt, alloc, caster, first.get(19..).unwrap_or(b""))?;
-    check_evicted(rt, caster, &[], None);
-    tell(rt, alloc, caster, first)?;
+    check_taken(rt, alloc, caster, first)?;
     tell(rt, alloc, caster, second)?;
     check_evicted(rt, caster, &[1], first.get(16..));
-    let sends = ticks(rt, alloc, caster, 8)?;
-    check_counts(rt, &sends, MANIFEST, 1_473, [0, 2]);
-    check_counts(rt, &sends, EVICT, 1_475, [0, 1]);
-    assert_eq!(rt; sends.len(), 3);
-    Ok(())
+    check_announced(rt, alloc, caster)
 }
 
 #[test]
 fn evidence_of_round_6_is_announced_in_round_7(rt: HostRuntime) -> Result<(), Fail> {
     let alloc = rt.alloc();
     let evidence = evidence_of_two(alloc)?;
-    let mut caster = caster_of(&rt, alloc, session(), 0)?;
+    let mut caster = caster_of(alloc, session(), 0)?;
     Ok(check_evidence(&rt, alloc, &mut caster, &evidence)?)
 }

@@ -69,19 +69,24 @@ fn add(rt: &impl Abort, ledger: &mut Ledger, entry: Entry)
     }
 }
 
+/// Checks which exchange has a place.
+fn check_place(rt: &impl Abort, ledger: &Ledger, place: u16, expected: Option<Exchange>) {
+    assert_eq!(rt; ledger.place(place), expected);
+}
+
 #[test]
 fn kept_exchanges_have_places_in_order(rt: HostRuntime) -> Result<(), Fail> {
     let mut ledger = Ledger::make(rt.alloc(), 1, 4, &shape_of(1))?;
     add(&rt, &mut ledger, asked(exchange(3, 2), 0));
     add(&rt, &mut ledger, asked(exchange(1, 3), 0));
     add(&rt, &mut ledger, asked(exchange(1, 2), 1));
-    assert_eq!(rt; ledger.place(0), Some(exchange(1, 2)));
-    assert_eq!(rt; ledger.place(1), Some(exchange(1, 3)));
-    assert_eq!(rt; ledger.place(2), Some(exchange(3, 2)));
-    assert_eq!(rt; ledger.place(3), None);
+    check_place(&rt, &ledger, 0, Some(exchange(1, 2)));
+    check_place(&rt, &ledger, 1, Some(exchange(1, 3)));
+    check_place(&rt, &ledger, 2, Some(exchange(3, 2)));
+    check_place(&rt, &ledger, 3, None);
     ledger.forget(6);
-    assert_eq!(rt; ledger.place(0), Some(exchange(3, 2)));
-    assert_eq!(rt; ledger.place(1), None);
+    check_place(&rt, &ledger, 0, Some(exchange(3, 2)));
+    check_place(&rt, &ledger, 1, None);
     Ok(())
 }
 

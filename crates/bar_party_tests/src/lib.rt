@@ -6,8 +6,14 @@
 #[cfg(test)]
 mod caster_tests;
 #[cfg(test)]
+mod keys;
+#[cfg(test)]
 mod ledger_tests;
 #[cfg(test)]
 mod peer_tests;
+#[cfg(test)]
+mod requests;
+#[cfg(test)]
+mod sends;
 #[cfg(test)]
 mod world_tests;

@@ -5,11 +5,12 @@ pub mod datagrams;
 pub mod pair;
 pub mod peers;
 
+use crate::requests::request;
 use bar_samples::sessions::session;
-use bar_samples::signed::{scheme_of, signed};
+use bar_samples::signed::scheme_of;
 use bar_window::{Exchange, XKind};
 use bar_wire::Kind;
-use datagrams::{front, tell_blocks};
+use datagrams::tell_blocks;
 use pair::{Pair, Row, check_totals, check_window, pair_of, part, pass, tell_round, trade};
 use peers::{answers, check_played};
 use std::alloc::{AllocError, Global};
@@ -71,10 +72,8 @@ fn check_trade(rt: &impl Abort, alloc: Global, pair: &mut Pair) -> Result<(), Al
 
 /// A REQUEST of peer 1 in round 6 whose seed isn't one of peer 1's.
 fn stray_request(alloc: Global) -> Result<Vec<u8>, Fail> {
-    let mut message = front(Kind::Request, 1, 2, 6).to_vec(alloc)?;
-    message.extend_from_slice(&[0; 64])?;
     let scheme = scheme_of(alloc, session(), 8)?;
-    Ok(signed(alloc, &scheme, 0, &message)?)
+    Ok(request(alloc, &scheme, 0)?)
 }
 
 /// Whether `bytes` consist of `before` other bytes and then a datagram.

@@ -1,11 +1,13 @@
 //! Tests of a world: all parties of a session together, over moves.
 ghost use Rattle.bar_wire.specs.Limits.{largest_content};
+ghost use Rattle.bar_rules.specs.World.World.{IsSetup};
 ghost use Rattle.bar_world.specs.Code.Kept.{IsReady};
 ghost use Rattle.bar_world.specs.Made.{AreNumbers, session_by};
-ghost use Rattle.bar_world.specs.Code.Setups.{AreOfParties};
-ghost use Rattle.std.specs.Prelude.{◌≡◌, ◌+◌, ◌*◌, ◌≤◌, length, IfOk, OnOk};
+ghost use Rattle.bar_world.specs.Code.Setups.{AreOfParties, setup_of};
+ghost use Rattle.std.specs.Prelude.{◌≡◌, ℕ, ◌+◌, ◌*◌, ◌≤◌, List, length, None, IfOk, OnOk};
 
 use bar_lms::{Height, Ots, Params};
+use bar_roster::Session;
 use bar_samples::sessions::ID;
 use bar_seeds::Secrets;
 use bar_wire::Shape;
@@ -50,6 +52,24 @@ const THREE: [Secrets; 3] = [
 
 const STREAM_LEN: usize = 4000;
 
+/// The session of these numbers whose parties hold these secrets.
+fn session_of(
+    alloc: Global,
+    shape: Shape,
+    numbers: Numbers,
+    secrets: &[Secrets],
+) -> Result<Session, AllocError>
+    requires numbers { AreNumbers shape numbers }
+    requires count { length secrets.now ≡ shape.peers + 1 }
+    requires parties { AreOfParties (session_by shape numbers secrets.now) secrets.now }
+    ensures value { IfOk result (λ s. s ≡ session_by shape numbers secrets.now) }
+    ensures single { IfOk result (λ s. s.top ≡ None) }
+    ensures setup { IfOk result (λ s. (stream : List ℕ) → IsSetup (setup_of s secrets.now stream)) }
+{
+    let keys = keys_of(alloc, numbers.params, shape.rounds, secrets)?;
+    session(alloc, shape, numbers, &keys)
+}
+
 /// The world of a session of these numbers. The parties hold these secrets, and the stream is one byte repeated.
 fn world_of(
     alloc: Global,
@@ -64,8 +84,7 @@ fn world_of(
     requires room { stream_len ≤ shape.rounds * shape.per_round * largest_content }
     ensures { IfOk result (λ world. IsReady world) }
 {
-    let keys = keys_of(alloc, numbers.params, shape.rounds, secrets)?;
-    let session = session(alloc, shape, numbers, &keys)?;
+    let session = session_of(alloc, shape, numbers, secrets)?;
     let stream = vec![in alloc; 165; stream_len]?;
     World::make(alloc, &session, secrets, stream)
 }

@@ -82,20 +82,30 @@ fn check_sent_twice(rt: &impl Abort, sent: &[Sent]) {
     assert!(rt; one.bytes.starts_with(&[0xba, 0x47, 1, 3]));
 }
 
-/// The third send, which is the seventh call of the link, fails. The recording up to there has no end, and isn't replayed.
+/// A peer whose third send fails, which is the seventh call of its link.
+fn stopped(alloc: Global) -> Result<Left, Fail> {
+    let link = link_of(alloc, 120, 0, &[7])?;
+    Ok(run_over(alloc, PEER, prepared(alloc, peer_key())?, link)?)
+}
+
 #[test]
 fn a_failed_call_of_the_link_stops_a_peer(rt: HostRuntime) -> Result<(), Fail> {
-    let alloc = rt.alloc();
-    let link = link_of(alloc, 120, 0, &[7])?;
-    let left = run_over(alloc, PEER, prepared(alloc, peer_key())?, link)?;
+    let left = stopped(rt.alloc())?;
     check_end(&rt, &left, 6, "", "bar: link failed\n");
     check_bound(&rt, &left, 2);
     check_sent_twice(&rt, left.outside.link.sent());
+    Ok(())
+}
+
+/// What a stopped peer recorded has no end, and isn't replayed.
+#[test]
+fn the_recording_of_a_stopped_peer_is_refused(rt: HostRuntime) -> Result<(), Fail> {
+    let left = stopped(rt.alloc())?;
     let recording = left.outside.files.get("r").unwrap_or(b"");
     assert_eq!(rt; recording.len(), 18);
-    let mut files = prepared(alloc, peer_key())?;
+    let mut files = prepared(rt.alloc(), peer_key())?;
     files.put("in", recording)?;
-    let refused = run(alloc, REPLAY, outside_of(alloc, files, &[], &[])?)?;
+    let refused = run(rt.alloc(), REPLAY, outside_of(rt.alloc(), files, &[], &[])?)?;
     check_end(
         &rt,
         &refused,

@@ -1,6 +1,7 @@
 //! Tests of table files of a small session. The broadcaster's key was made by a Python program written from RFC 8554.
 ghost use Rattle.std.specs.Prelude.{◌≡◌, ◌<◌};
 
+use crate::verdict_tests::session_of;
 use bar_bytes::Steps;
 use bar_hss::SessionVerifier;
 use bar_judge::{TableFault, add_entry, read_table};
@@ -136,34 +137,66 @@ const ROWS: [(&[Part], Option<u64>); 11] = [
     ),
 ];
 
+/// Checks the offset of the first bad entry of a file of these parts.
+fn check_place(
+    rt: &impl Abort,
+    alloc: Global,
+    session: &Session,
+    caster: &LmsScheme,
+    parts: &[Part],
+    place: Option<u64>,
+) -> Result<(), AllocError> {
+    let bytes = file_of(rt, alloc, caster, parts)?;
+    let fault = place.map(|at| TableFault::BadEntry { at });
+    assert_eq!(rt; read(alloc, &bytes, session).err(), fault);
+    Ok(())
+}
+
 #[test]
 fn a_table_file_is_read_up_to_a_bad_entry(rt: HostRuntime) -> Result<(), Fail> {
     let alloc = rt.alloc();
-    let session = Session::read(alloc, three_rounds().as_bytes())?;
+    let session = session_of(alloc, three_rounds())?;
     let caster = scheme_of(alloc, three_rounds(), 7)?;
     for (parts, place) in ROWS {
-        let bytes = file_of(&rt, alloc, &caster, parts)?;
-        let fault = place.map(|at| TableFault::BadEntry { at });
-        assert_eq!(rt; read(alloc, &bytes, &session).err(), fault);
+        check_place(&rt, alloc, &session, &caster, parts, place)?;
     }
+    Ok(())
+}
+
+/// Checks the digest of an update in a table.
+fn check_digest(rt: &impl Abort, table: &Table, round: u8, index: u8, expected: Digest<'_>) {
+    let id = UpdateId {
+        round: u32::from(round),
+        index,
+    };
+    assert_eq!(rt; table.digest(id), expected);
+}
+
+/// Checks the table of a file with the manifests of rounds 1 and 3.
+fn check_table(
+    rt: &impl Abort,
+    alloc: Global,
+    session: &Session,
+    caster: &LmsScheme,
+) -> Result<(), Fail> {
     let parts = [Part::Manifest(1), Part::Manifest(3)];
-    let table = read(alloc, &file_of(&rt, alloc, &caster, &parts)?, &session)?;
+    let bytes = file_of(rt, alloc, caster, &parts)?;
+    let table = read(alloc, &bytes, session)?;
     for round in [1, 3] {
         for index in [0, 1] {
-            let id = UpdateId {
-                round: u32::from(round),
-                index,
-            };
-            assert_eq!(rt; table.digest(id), Digest::Known(&digest_of(round, index)));
+            let digest = digest_of(round, index);
+            check_digest(rt, &table, round, index, Digest::Known(&digest));
         }
     }
-    assert_eq!(rt;
-        table.digest(UpdateId { round: 3, index: 2 }),
-        Digest::PastEnd
-    );
-    assert_eq!(rt;
-        table.digest(UpdateId { round: 2, index: 0 }),
-        Digest::NoManifest
-    );
+    check_digest(rt, &table, 3, 2, Digest::PastEnd);
+    check_digest(rt, &table, 2, 0, Digest::NoManifest);
     Ok(())
+}
+
+#[test]
+fn a_table_has_the_digests_of_its_file(rt: HostRuntime) -> Result<(), Fail> {
+    let alloc = rt.alloc();
+    let session = session_of(alloc, three_rounds())?;
+    let caster = scheme_of(alloc, three_rounds(), 7)?;
+    check_table(&rt, alloc, &session, &caster)
 }

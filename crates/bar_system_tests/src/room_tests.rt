@@ -1,43 +1,28 @@
 //! Tests of the limits on what a link takes between two ticks, over a socket that never runs out.
-ghost use Rattle.std.specs.Prelude.{◌≤◌, length};
-ghost use Rattle.bar_outside.specs.Wire.{largest_packet};
-
 use crate::endless_socket::EndlessSocket;
-use crate::link_tests::millis;
+use crate::link_tests::{check_tick, millis, next_into};
 use bar_outside::{LARGEST_PACKET, Link, Taken};
 use bar_system::RealLink;
-use std::alloc::{AllocError, Global};
+use std::process::Abort;
 use std::test::Fail;
-
-/// More datagrams than are taken.
-const MANY: usize = 100_000;
 
 /// The time until the first tick, in milliseconds.
 const BEFORE: u64 = 1_000;
 
-/// How many datagrams are taken before the next tick. After that tick another one must be taken.
-fn taken_into<L: Link>(link: &mut L, buf: &mut [u8]) -> Result<usize, Fail>
-    requires { largest_packet ≤ length buf.old }
-{
-    for count in 0..MANY {
-        match link.next(buf) {
-            Ok(Taken::Datagram(_)) => {}
-            Ok(Taken::Tick) => {
-                return match link.next(buf) {
-                    Ok(Taken::Datagram(_)) => Ok(count),
-                    _ => Err(Fail::from(AllocError)),
-                };
-            }
-            _ => return Err(Fail::from(AllocError)),
-        }
+/// Checks that a link gives this many datagrams.
+fn check_datagrams(rt: &impl Abort, link: &mut impl Link, count: usize) {
+    let mut buf = [0; LARGEST_PACKET];
+    for _ in 0..count {
+        assert!(rt; matches!(next_into(link, &mut buf), Ok(Taken::Datagram(_))));
     }
-    Ok(MANY)
 }
 
-/// The same, with a new buffer.
-fn taken_before<L: Link>(alloc: Global, link: &mut L) -> Result<usize, Fail> {
-    let mut buf = vec![in alloc; 0; LARGEST_PACKET]?;
-    taken_into(link, &mut buf)
+/// Checks how many datagrams a link takes before the first tick. After that tick another one must be taken.
+fn check_room(rt: &impl Abort, link: &mut impl Link, me: u16, begin_ms: u64, room: usize) {
+    assert!(rt; link.bind(me, 20_000, begin_ms, 60_000).is_ok());
+    check_datagrams(rt, link, room);
+    check_tick(rt, link);
+    check_datagrams(rt, link, 1);
 }
 
 #[test]
@@ -46,8 +31,7 @@ fn a_tick_has_room_for_so_much(rt: HostRuntime) -> Result<(), Fail> {
     for (me, room) in [(0, 16_384), (1, 128)] {
         let mut link: RealLink<'_, HostRuntime, EndlessSocket> = RealLink::over(&rt);
         let begin = millis(&rt)?.saturating_add(BEFORE);
-        assert_eq!(rt; link.bind(me, 20_000, begin, 60_000), Ok(()));
-        assert_eq!(rt; taken_before(rt.alloc(), &mut link)?, room);
+        check_room(&rt, &mut link, me, begin, room);
     }
     Ok(())
 }

@@ -17,8 +17,11 @@ class Beside:
         return ROOT / "crates" / self.crate / "out" / self.crate
 
 
-# a party, honest or lying, over a link of the tools; a party over a link in memory; and a program that tries changed datagrams and files
-PARTY, IN_MEMORY, FUZZ = Beside("bar_party"), Beside("bar_in_memory"), Beside("bar_fuzz")
+# a party, honest or lying, over a link of the tools or in memory; and a program that tries changed datagrams and files
+PARTY, FUZZ = Beside("bar_party"), Beside("bar_fuzz")
+
+# the first argument of a party over files and a link in memory
+IN_MEMORY = "memory"
 
 
 def built(program: Beside) -> pathlib.Path:

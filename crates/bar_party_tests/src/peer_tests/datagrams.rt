@@ -1,23 +1,17 @@
-//! Datagrams of the broadcaster, and prefixes of other datagrams, for tests of peers.
+//! Datagrams of the broadcaster, for tests of peers.
 
 use super::peers::tell;
 use bar_hss::SessionScheme;
 use bar_peer::Peer;
-use bar_samples::signed::{block_with, signed};
+use bar_samples::signed::{block_with, front, signed};
 use bar_seal::LmsScheme;
-use bar_wire::Kind;
 use sha2::{Digest, Sha256};
 use std::alloc::{AllocError, Global};
 use std::process::Abort;
 
-/// The start of a datagram of a kind and a round.
-pub fn front(kind: Kind, from: u8, to: u8, round: u8) -> [u8; 20] {
-    let code = kind.code();
-    [
-        0xba, 0x47, 1, code, 0x00, 0x11, 0x22, 0x33, 0x44, 0x55, 0x66, 0x77, 0, from, 0, to, 0, 0,
-        0, round,
-    ]
-}
+const MANIFEST: u8 = 1;
+
+const BLOCK: u8 = 2;
 
 /// The block of an update, with its round and its index as content.
 fn block(round: u8, index: u8) -> [u8; 1024] {
@@ -31,11 +25,8 @@ pub fn manifest(
     round: u8,
     count: u8,
 ) -> Result<Vec<u8>, AllocError> {
-    let mut message = [
-        0xba, 0x47, 1, 1, 0x00, 0x11, 0x22, 0x33, 0x44, 0x55, 0x66, 0x77, 0, 0, 0xff, 0xff, 0, 0,
-        0, round, count,
-    ]
-    .to_vec(alloc)?;
+    let mut message = front(alloc, MANIFEST, [0, 0, 0xff, 0xff], round)?;
+    message.push(count)?;
     for index in 0..count {
         let block = block(round, index);
         message.extend_from_slice(&Sha256::digest(block.as_slice()))?;
@@ -51,11 +42,8 @@ pub fn manifest(
 /// The BLOCK of an update.
 fn block_message(alloc: Global, to: u8, update: (u8, u8)) -> Result<Vec<u8>, AllocError> {
     let (round, index) = update;
-    let mut bytes = [
-        0xba, 0x47, 1, 2, 0x00, 0x11, 0x22, 0x33, 0x44, 0x55, 0x66, 0x77, 0, 0, 0, to, 0, 0, 0,
-        round, index,
-    ]
-    .to_vec(alloc)?;
+    let mut bytes = front(alloc, BLOCK, [0, 0, 0, to], round)?;
+    bytes.push(index)?;
     bytes.extend_from_slice(&block(round, index))?;
     Ok(bytes)
 }

@@ -1,6 +1,8 @@
 //! Two peers for tests, the datagrams between them, and those that both are given.
-use super::datagrams::{front, manifest};
-use super::peers::{Sent, answers, peer_of, sent_at_tick, tell, ticks};
+use super::datagrams::manifest;
+use super::peers::{answers, peer_of, sent_at_tick, tell, ticks};
+use crate::requests::request_front;
+use crate::sends::Sent;
 use bar_hss::SessionScheme;
 use bar_ledger::Totals;
 use bar_peer::Peer;
@@ -52,14 +54,16 @@ pub fn tell_round(
 /// which are added to those sent.
 pub type Row = (u16, usize, &'static [(Kind, usize)]);
 
+/// Whether a datagram of this kind and length is sent to this party.
+fn is_sent(sent: &Sent, to: u16, kind: Kind, len: usize) -> bool {
+    sent.to == to && sent.bytes.len() == len && sent.bytes.get(3) == Some(&kind.code())
+}
+
 /// Whether datagrams of these kinds and lengths are sent to this party, and no others.
 fn are_sent(sends: &[Sent], to: u16, kinds: &[(Kind, usize)]) -> bool {
     let mut all = sends.len() == kinds.len();
     for (sent, (kind, len)) in sends.iter().zip(kinds) {
-        all = all
-            && sent.to == to
-            && sent.bytes.get(3) == Some(&kind.code())
-            && sent.bytes.len() == *len;
+        all = all && is_sent(sent, to, *kind, *len);
     }
     all
 }
@@ -71,18 +75,19 @@ fn add_all(all: &mut Vec<Vec<u8>>, sends: Vec<Sent>) -> Result<(), AllocError> {
     Ok(())
 }
 
-/// What a peer of the pair sends in answer to a datagram.
+/// What one of two peers sends in answer to a datagram.
 fn answers_of(
     rt: &impl Abort,
     alloc: Global,
-    pair: &mut Pair,
+    one: &mut Peer<SessionScheme>,
+    two: &mut Peer<SessionScheme>,
     party: u16,
     datagram: &[u8],
 ) -> Result<Vec<Sent>, AllocError> {
     if party == 1 {
-        answers(rt, alloc, &mut pair.one, datagram)
+        answers(rt, alloc, one, datagram)
     } else {
-        answers(rt, alloc, &mut pair.two, datagram)
+        answers(rt, alloc, two, datagram)
     }
 }
 
@@ -100,7 +105,7 @@ pub fn give_in_turn(
         let Some(datagram) = all.get(*place) else {
             panic!(rt; "row {row} gives what was not sent");
         };
-        let sends = answers_of(rt, alloc, pair, *party, datagram)?;
+        let sends = answers_of(rt, alloc, &mut pair.one, &mut pair.two, *party, datagram)?;
         assert!(rt;
             are_sent(&sends, 3u16.saturating_sub(*party), kinds),
             "row {row}"
@@ -119,19 +124,18 @@ pub fn trade(
     rows: &[Row],
 ) -> Result<Vec<Vec<u8>>, AllocError> {
     ticks(rt, alloc, &mut pair.one, 1)?;
-    let front = front(Kind::Request, 2, 1, round);
+    let front = request_front(alloc, [0, 2, 0, 1], round)?;
     let request = sent_at_tick(rt, alloc, &mut pair.two, &front)?;
     give_in_turn(rt, alloc, pair, request, rows)
 }
 
 /// The bytes of a window of four rounds, each word given by its lowest byte.
 fn window(rows: [u8; 4]) -> [u8; 32] {
-    let mut bytes = [0; 32];
-    bytes[7] = rows[0];
-    bytes[15] = rows[1];
-    bytes[23] = rows[2];
-    bytes[31] = rows[3];
-    bytes
+    let [a, b, c, d] = rows;
+    [
+        0, 0, 0, 0, 0, 0, 0, a, 0, 0, 0, 0, 0, 0, 0, b, 0, 0, 0, 0, 0, 0, 0, c, 0, 0, 0, 0, 0, 0,
+        0, d,
+    ]
 }
 
 /// Some bytes of a datagram of an exchange, by the datagram's index.
@@ -150,6 +154,10 @@ pub fn check_window(rt: &impl Abort, all: &[Vec<u8>], place: usize, from: usize,
     );
 }
 
+fn check_totals_of(rt: &impl Abort, peer: &Peer<SessionScheme>, x: Exchange, totals: Totals) {
+    assert_eq!(rt; peer.totals(x), totals);
+}
+
 /// Checks that each side promised, received and opened `count` updates in an exchange.
 pub fn check_totals(rt: &impl Abort, pair: &Pair, x: Exchange, count: u8) {
     let totals = Totals {
@@ -157,6 +165,6 @@ pub fn check_totals(rt: &impl Abort, pair: &Pair, x: Exchange, count: u8) {
         received: count,
         opened: count,
     };
-    assert_eq!(rt; pair.one.totals(x), totals);
-    assert_eq!(rt; pair.two.totals(x), totals);
+    check_totals_of(rt, &pair.one, x, totals);
+    check_totals_of(rt, &pair.two, x, totals);
 }

@@ -1,54 +1,21 @@
 //! Peers for tests, and all that they send and play.
-ghost use Rattle.std.specs.Prelude.{◌≡◌, ◌<◌, [], false, IfOk};
-ghost use Rattle.bar_hss.specs.Files.{IsPartyKeyOf};
-ghost use Rattle.bar_core.specs.Code.Orders.{left_in};
-ghost use Rattle.bar_peer.specs.Code.StandsFor.{contents_left};
 
-use bar_bytes::Steps;
-use bar_hss::{PartyKey, SessionScheme};
+use crate::keys::key_of;
+use crate::sends::{MANY, Sent, add_sends, begins};
+use bar_core::Core;
+use bar_hss::SessionScheme;
 use bar_peer::Peer;
-use bar_roster::{Session, key_text};
-use bar_samples::sessions::ID;
-use bar_wire::{Input, LARGEST_DATAGRAM};
+use bar_roster::Session;
+use bar_wire::Input;
 use std::alloc::{AllocError, Global};
-use std::marker::Brand;
 use std::process::Abort;
-use std::sync::ledger::{Blank, Ledger};
 use std::test::Fail;
-
-/// A datagram and its receiver.
-#[derive(Drop)]
-pub struct Sent {
-    pub to: u16,
-    pub bytes: Vec<u8>,
-}
 
 /// What a peer played and sent.
 #[derive(Drop)]
 pub struct Given {
     pub played: Vec<u8>,
     pub sends: Vec<Sent>,
-}
-
-/// The fresh key text of a session's peer, whose secret is 32 times one byte.
-fn text_of(
-    alloc: Global,
-    session: &Session,
-    party: u16,
-    secret: u8,
-) -> Result<Vec<u8>, AllocError> {
-    let rounds = session.shape().rounds;
-    let params = session.params();
-    let (lms, ots) = (params.lms(), params.ots());
-    key_text(alloc, party, &ID, rounds, lms, ots, &[secret; 32], false)
-}
-
-/// The key of that text.
-fn key_of(alloc: Global, session: &Session, party: u16, secret: u8) -> Result<PartyKey, Fail>
-    ensures { IfOk result (IsPartyKeyOf session.now false) }
-{
-    let text = text_of(alloc, session, party, secret)?;
-    Ok(PartyKey::read(alloc, &text, session, false, false)?)
 }
 
 /// A peer of a session whose secret is 32 times one byte.
@@ -59,28 +26,15 @@ pub fn peer_of(
     secret: u8,
 ) -> Result<Peer<SessionScheme>, Fail> {
     let session = Session::read(alloc, session.as_bytes())?;
-    let key = key_of(alloc, &session, u16::from(party), secret)?;
+    let key = key_of(alloc, &session, u16::from(party), secret, false)?;
     Ok(Peer::of_key(alloc, session, key)?)
-}
-
-fn step_with<L: Ledger>(peer: &mut Peer<SessionScheme>, input: Input<'_>, blank: Blank)
-    requires name { blank.name ≡ L.name }
-    requires parts { blank.parts ≡ L.parts }
-    requires some { 0 < L.parts }
-    requires sends { left_in peer.old.orders ≡ [] }
-    requires contents { contents_left peer.old.memory.store peer.old.playing ≡ [] }
-{
-    peer.step(input, &mut Steps::<L>::new(blank));
 }
 
 fn step(rt: &impl Abort, peer: &mut Peer<SessionScheme>, input: Input<'_>) {
     let idle = peer.idle();
     assert!(rt; idle);
-    step_with::<Brand>(peer, input, Blank::new(1));
+    peer.take(input);
 }
-
-/// More outputs than any input causes.
-const MANY: usize = 200;
 
 fn add_played(peer: &mut Peer<SessionScheme>, played: &mut Vec<u8>) -> Result<(), AllocError> {
     for _ in 0..MANY {
@@ -88,22 +42,6 @@ fn add_played(peer: &mut Peer<SessionScheme>, played: &mut Vec<u8>) -> Result<()
             return Ok(());
         };
         played.extend_from_slice(content)?;
-    }
-    Ok(())
-}
-
-fn add_sends(
-    alloc: Global,
-    peer: &mut Peer<SessionScheme>,
-    sends: &mut Vec<Sent>,
-) -> Result<(), AllocError> {
-    let mut buf = vec![in alloc; 0; usize::from(LARGEST_DATAGRAM)]?;
-    for _ in 0..MANY {
-        let Some((to, len)) = peer.next_out(&mut buf) else {
-            return Ok(());
-        };
-        let bytes = buf.get(..len).unwrap_or(b"").to_vec(alloc)?;
-        sends.push(Sent { to, bytes })?;
     }
     Ok(())
 }
@@ -182,7 +120,7 @@ pub fn sent_at_tick(
     front: &[u8],
 ) -> Result<Vec<u8>, AllocError> {
     let sends = ticks(rt, alloc, peer, 1)?.sends;
-    match sends.iter().find(|sent| sent.bytes.starts_with(front)) {
+    match sends.iter().find(|sent| begins(sent, front)) {
         Some(sent) => sent.bytes.to_vec(alloc),
         None => panic!(rt; "it was not sent"),
     }

@@ -1,41 +1,11 @@
-use Rattle.std.proofs.Common.{◌∙◌, List, length, ap, subst, sym}
-use Rattle.std.proofs.lemmas.List.{length-map}
-use Rattle.bar_seeds.specs.declared.secrets.Secrets.{Secrets}
+use Rattle.std.proofs.Common.{subst, sym}
 use Rattle.bar_rules.specs.Member.{Session}
-use Rattle.bar_rules.specs.World.World.{IsSetup}
-use Rattle.bar_world.specs.Keys.{key_by, keys_by}
-use Rattle.bar_world.specs.Made.{session_by}
-use Rattle.bar_world.specs.Code.Setups.{AreOfParties, setup_of}
-use Rattle.bar_world.proofs.KeyFiles.{held-is}
+use Rattle.bar_world.specs.Code.Setups.{AreOfParties}
 use Rattle.bar_party_tests.proofs.world_tests.world_of.Goals as goal
 
-pub session-requires-clause-count : goal.session-requires-clause-count
-session-requires-clause-count c =
-    ap length (c.deref.ensures.value ∙ c.in_ok-keys.ensures)
-    ∙ length-map c.args.secrets.now (key_by c.args.numbers.params c.args.shape.rounds) ∙ c.requires.count
-
-pub session-requires-clause-made : goal.session-requires-clause-made
-session-requires-clause-made c =
-    let made = c.deref.ensures.value ∙ c.in_ok-keys.ensures in
-    made
-    ∙ ap (keys_by c.args.numbers.params c.args.shape.rounds)
-    (sym (held-is c.args.numbers.params c.args.shape.rounds c.args.secrets.now _ made))
-
-pub session-requires-clause-parties : goal.session-requires-clause-parties
-session-requires-clause-parties c =
-    subst (λ (held : List Secrets). AreOfParties (session_by c.args.shape c.args.numbers held) held)
-    (sym (held-is c.args.numbers.params c.args.shape.rounds c.args.secrets.now _ (c.deref.ensures.value ∙ c.in_ok-keys.ensures)))
-    c.requires.parties
-
 pub make-requires-clause-setup : goal.make-requires-clause-setup
-make-requires-clause-setup c =
-    let stream = c.in_ok-stream.stream.items in
-    subst (λ (held : List Secrets). IsSetup (setup_of c.in_ok-session.session held stream))
-    (held-is c.args.numbers.params c.args.shape.rounds c.args.secrets.now _ (c.deref.ensures.value ∙ c.in_ok-keys.ensures))
-    (c.in_ok-session.ensures.setup stream)
+make-requires-clause-setup c = c.in_ok-session.ensures.setup c.in_ok-stream.stream.items
 
 pub make-requires-clause-parties : goal.make-requires-clause-parties
 make-requires-clause-parties c =
-    let held = held-is c.args.numbers.params c.args.shape.rounds c.args.secrets.now _ (c.deref.ensures.value ∙ c.in_ok-keys.ensures) in
-    subst (λ (s : Session). AreOfParties s c.args.secrets.now)
-    (sym (c.in_ok-session.ensures.value ∙ ap (session_by c.args.shape c.args.numbers) held)) c.requires.parties
+    subst (λ (s : Session). AreOfParties s c.args.secrets.now) (sym c.in_ok-session.ensures.value) c.requires.parties

@@ -1,5 +1,5 @@
 use Rattle.bar_outside.proofs.OpenLemmas.{new-running}
-use Rattle.bar_system_tests.proofs.spawner_tests.children_end_with_their_statuses.Goals as goal
+use Rattle.bar_system_tests.proofs.spawner_tests.check_status.Goals as goal
 
 pub wait-requires : goal.wait-requires
 wait-requires g c =

@@ -1,21 +1,17 @@
-//! Runs `peer` or `broadcaster` over files and a link in memory: `bar_in_memory SESSION KEY STREAM RECORDING PARTY NUMBER ..`. The link
-//! gives the inputs of a recording, and those of its calls whose numbers are given fail. The program prints the command's exit status, its
-//! errors and its output, whether the link was bound, each datagram that was sent, and each file. After the command it allocates no memory.
-//! `bar` doesn't use it. tools/check-nodes uses it to compare the two commands with expected values, and their time with that of a replay.
-//! tools/try-memory uses it to refuse memory to them.
-#![tactic(auto)]
-
+//! A run of `peer` or `broadcaster` over files and a link in memory. The link gives the inputs of a recording, and those of its calls whose
+//! numbers are given fail. What is printed tells the command's exit status, its errors and its output, whether the link was bound, each
+//! datagram that was sent, and each file. After the command no memory is allocated.
 ghost use Rattle.std.specs.Prelude.{◌≡◌};
 ghost use Rattle.bar_outside.specs.Code.MemTaken as small;
 
 use bar_cli::bar_run;
 use bar_outside::{LARGEST_PACKET, MemFiles, MemLink, MemSink, MemSpawner, MemTaken};
 use bar_roster::Session;
-use bar_start::{read_file, words_of};
+use bar_start::read_file;
 use bar_wire::Input;
 use std::alloc::{AllocError, Global};
-use std::io;
 use std::io::{ErrorKind, Write};
+use std::{io, rt};
 
 /// The inputs of a link that replays a recording.
 fn taken(alloc: Global, inputs: bar_record::Items<'_>) -> Result<Vec<MemTaken>, AllocError> {
@@ -225,17 +221,21 @@ fn show(left: &Left, out: &mut impl Write) -> io::Result<()> {
     Ok(())
 }
 
-fn main(rt: HostRuntime) -> io::Result<()> {
+/// Runs what the arguments ask for: `SESSION KEY STREAM RECORDING PARTY NUMBER ..`.
+pub fn run_and_show<R: rt::Files + AllocGlobal>(
+    rt: &R,
+    words: &[String],
+    out: &mut impl Write,
+) -> io::Result<()> {
     let alloc = rt.alloc();
-    let words = words_of(&rt)?;
-    let request = request_of(alloc, &words)?;
+    let request = request_of(alloc, words)?;
     let mut files = MemFiles::make(alloc, Vec::new(alloc));
-    let session = read_file(&rt, request.session)?;
+    let session = read_file(rt, request.session)?;
     files.put("s", &session)?;
-    files.put("k", &read_file(&rt, request.key)?)?;
-    files.put("t", &read_file(&rt, request.stream)?)?;
-    let recording = read_file(&rt, request.recording)?;
+    files.put("k", &read_file(rt, request.key)?)?;
+    files.put("t", &read_file(rt, request.stream)?)?;
+    let recording = read_file(rt, request.recording)?;
     let link = link_of(alloc, &session, request.party, &recording, request.fail)?;
     let left = run(alloc, request.party, files, link)?;
-    show(&left, &mut rt.stdout())
+    show(&left, out)
 }
