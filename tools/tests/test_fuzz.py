@@ -1,6 +1,8 @@
 """What is said of changed datagrams, files and texts."""
 from support import RoomCase, run_script
 
+from gossip.programs import builds
+
 PRINTED = """sessions 3
 datagrams tried 7000 Short 1 BadMagic 2 BadVersion 3 BadKind 4 BadSession 5 BadLength 6 BadField 7 \
 read 6972 checkable 40 signed 10 answered 9 sent 12 shown 1
@@ -38,13 +40,20 @@ class Scripts(RoomCase):
         self.assertEqual((status, out[:-1], err), (0, TOLD.splitlines(), []))
         self.assertRegex(out[-1], "^OK: 10,690 changed datagrams, files and texts were answered in [0-9]+ s, with seed 5$")
         words = (self.room / "words").read_text().split()
-        self.assertEqual(words[:2], ["5", "7000"])
-        self.assertEqual([word.rpartition("/")[2] for word in words[2:6]], ["session.toml", "recording", "bad-opening", "e.00002"])
+        self.assertEqual(words[:3], ["fuzz", "5", "7000"])
+        self.assertEqual([word.rpartition("/")[2] for word in words[3:7]], ["session.toml", "recording", "bad-opening", "e.00002"])
+
+    def test_all_changed_datagrams_are_answered(self):
+        if not builds.PARTY.path.exists():
+            self.skipTest("the program bar_party isn't built: tools/fuzz-core builds it")
+        status, out, err = run_script("fuzz-core", "--count", 300)
+        self.assertEqual((status, err), (0, []), out)
+        self.assertRegex(out[-1], "^OK: [0-9,]+ changed datagrams, files and texts were answered in [0-9]+ s, with seed 1$")
 
     def test_a_program_that_fails(self):
         status, out, _ = self.run_with("echo 'a message is spelled otherwise' >&2; exit 1")
         self.assertEqual(status, 1)
-        self.assertRegex(out[-1], "^FAILED: bar_fuzz ends with status 1: .*a message is spelled otherwise.*; --seed 1 repeats it$")
+        self.assertRegex(out[-1], "^FAILED: bar_party ends with status 1: .*a message is spelled otherwise.*; --seed 1 repeats it$")
 
     def test_words_that_are_refused(self):
         status, _, err = run_script("fuzz-core", "--count", 0, "--seed", -2)

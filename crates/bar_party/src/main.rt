@@ -1,10 +1,13 @@
 //! Commands of `bar` over another link, or with lies in what a peer sends: `bar_party LINK LIE WORDS ..`. WORDS are a command line of
 //! `bar`, LINK is `udp` for the loopback network or `pipe` for a link over the standard streams, and LIE is `none` or the name of a lie.
 //! `bar_party memory SESSION KEY STREAM RECORDING PARTY NUMBER ..` runs `peer` or `broadcaster` over files and a link in memory.
+//! `bar_party fuzz SEED COUNT SESSION RECORDING EVIDENCE ..` gives changed datagrams to the parties of sessions in memory.
 //! `bar` doesn't use it. tools/run-session and tools/simulate-session run it, and with `memory` tools/check-nodes, which compares the two
-//! commands with expected values and their time with that of a replay, and tools/try-memory, which refuses memory to them.
+//! commands with expected values and their time with that of a replay, and tools/try-memory, which refuses memory to them. With `fuzz`
+//! tools/fuzz-core runs it.
 #![tactic(auto)]
 
+mod fuzz;
 mod lies;
 mod memory;
 mod pipe;
@@ -101,11 +104,14 @@ fn run_words(rt: &HostRuntime, words: &[String]) -> io::Result<u8> {
     let [link, words @ ..] = words else {
         return Err(io::Error::from(ErrorKind::InvalidInput));
     };
-    if link.as_str() == "memory" {
-        memory::run_and_show(rt, words, &mut rt.stdout())?;
-        return Ok(0);
+    match link.as_str() {
+        "memory" => {
+            memory::run_and_show(rt, words, &mut rt.stdout())?;
+            Ok(0)
+        }
+        "fuzz" => Ok(fuzz::run_and_tell(rt, words)),
+        link => run_linked(rt, link, words),
     }
-    run_linked(rt, link.as_str(), words)
 }
 
 fn main(rt: HostRuntime) -> ExitCode {

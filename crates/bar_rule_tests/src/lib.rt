@@ -1,8 +1,10 @@
-//! Tests of stores, the judge, table files, proof files and findings, through their public calls.
+//! Tests of stores, the judge, table files, proof files, findings and the auditor, through their public calls.
 //!
 //! They are in a crate of their own, because a crate with tests is proved twice.
 #![tactic(auto)]
 
+#[cfg(test)]
+mod audit_tests;
 #[cfg(test)]
 mod findings_tests;
 #[cfg(test)]

@@ -17,11 +17,11 @@ class Beside:
         return ROOT / "crates" / self.crate / "out" / self.crate
 
 
-# a party, honest or lying, over a link of the tools or in memory; and a program that tries changed datagrams and files
-PARTY, FUZZ = Beside("bar_party"), Beside("bar_fuzz")
+# a party, honest or lying, over a link of the tools or in memory, which also tries changed datagrams and files
+PARTY = Beside("bar_party")
 
-# the first argument of a party over files and a link in memory
-IN_MEMORY = "memory"
+# its first argument for a party over files and a link in memory, and for changed datagrams and files
+IN_MEMORY, FUZZ = "memory", "fuzz"
 
 
 def built(program: Beside) -> pathlib.Path:

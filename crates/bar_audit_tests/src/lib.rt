@@ -1,7 +1,0 @@
-//! Tests of the auditor, through its public calls.
-//!
-//! They are in a crate of their own, because a crate with tests is proved twice.
-#![tactic(auto)]
-
-#[cfg(test)]
-mod exchange_tests;

@@ -1,4 +1,0 @@
-use Rattle.bar_fuzz.proofs.reading.table_of.Given as goal
-
-abbrev pub ghosts-read_counted : goal.ghosts-read_counted
-ghosts-read_counted a = record { name = a.blank.name; parts = a.blank.parts }
