@@ -104,6 +104,31 @@ fn secret_of<R: rt::Files + AllocGlobal>(rt: &R, path: &str) -> io::Result<Optio
     }
 }
 
+// Whether a file holds the secret of a key, and not that of another file.
+fn holds_other_secret<R: rt::Files + AllocGlobal>(
+    rt: &R,
+    path: &str,
+    other: &str,
+) -> io::Result<bool> {
+    match secret_of(rt, path)? {
+        Some(secret) => Ok(secret_of(rt, other)? != Some(secret)),
+        None => Ok(false),
+    }
+}
+
+// Whether these are of one regular file.
+fn is_one_file(here: &Metadata, named: &Metadata) -> bool {
+    here.dev() == named.dev() && here.ino() == named.ino() && here.is_file()
+}
+
+// The same open file, if the name still refers to it.
+fn still_named<R: rt::Files>(rt: &R, path: &str, file: R::File) -> io::Result<R::File> {
+    if !is_one_file(&file.metadata()?, &fs::metadata(rt, path)?) {
+        return Err(refusal());
+    }
+    Ok(file)
+}
+
 // Opens the file of this name, creating it if `may_be_new`, and locks it. Then checks that the name still refers to it.
 fn open_locked<R: rt::Files<File: Lockable>>(
     rt: &R,
@@ -114,11 +139,7 @@ fn open_locked<R: rt::Files<File: Lockable>>(
     how.append(true).create(may_be_new).mode(OWNERS_ALONE);
     let file = how.open(rt, path)?;
     file.lock_now()?;
-    let (here, named) = (file.metadata()?, fs::metadata(rt, path)?);
-    if here.dev() != named.dev() || here.ino() != named.ino() || !here.is_file() {
-        return Err(refusal());
-    }
-    Ok(file)
+    still_named(rt, path, file)
 }
 
 // Empties a locked file and restricts its mode to its owner.
@@ -163,11 +184,8 @@ fn open_beside<R: rt::Files<File: Lockable> + AllocGlobal>(
     name.push_str(".new")?;
     let file = open_locked(rt, name.as_str(), true)?;
     // A file that an earlier run of the same key left there is overwritten.
-    if file.metadata()?.len() > 0 {
-        let other = secret_of(rt, name.as_str())?;
-        if other.is_some() && other != secret_of(rt, path.as_str())? {
-            return Err(refusal());
-        }
+    if file.metadata()?.len() > 0 && holds_other_secret(rt, name.as_str(), path.as_str())? {
+        return Err(refusal());
     }
     empty(&file)?;
     let beside = Beside {
@@ -232,6 +250,14 @@ impl<F: OpenFile> HeldFile<F> {
     }
 }
 
+// The folder of the file of a canonical path.
+fn folder_of(path: &str) -> &str {
+    match path.rfind('/') {
+        Some(0) | None => "/",
+        Some(end) => path.get(..end).unwrap_or("/"),
+    }
+}
+
 // Renames the file over the old one and makes this durable against a crash of the machine.
 fn put_over<R: rt::Files + AllocGlobal, F: OpenFile>(
     rt: &R,
@@ -239,15 +265,10 @@ fn put_over<R: rt::Files + AllocGlobal, F: OpenFile>(
     beside: &Beside<F>,
 ) -> io::Result<()> {
     let (path, name) = (beside.path.as_str(), beside.name.as_str());
-    let secret = secret_of(rt, path)?;
-    if secret.is_some() && secret != secret_of(rt, name)? {
+    if holds_other_secret(rt, path, name)? {
         return Err(refusal());
     }
     file.sync_all()?;
     fs::rename(rt, name, path)?;
-    let folder = match path.rfind('/') {
-        Some(0) | None => "/",
-        Some(end) => path.get(..end).unwrap_or("/"),
-    };
-    fs::open(rt, folder)?.sync_all()
+    fs::open(rt, folder_of(path))?.sync_all()
 }
